@@ -1,0 +1,175 @@
+-- What is true of judgements, and of the refusal that is given where several apply. Definitions: specs/Answers.antt.
+--     refuseIf-passed      a test refuses exactly when it is true
+--     orElse-passed        of two judgements both pass, or the first refusal is given
+--     first-passed         several judgements pass exactly when each does
+--     firstFault-passed    a list passes exactly when no place is at fault
+--     firstFault-first     a refusal stands at the first place at fault
+--     Numbered             a judgement that passes or refuses with a given number
+--     Ascending            judgements in the order of their numbers
+--     lowest-first         of such the lowest is the first
+--     lowest-least         no judgement has a lower number than the refusal that is given
+--     lowest-one           and that is one of them
+-- Assumes nothing.
+use Prim.Native.Nat.{ℕ, zero, suc, _≤_, _<_}
+use native.Mathlib.Nat.{le-refl, le-trans, le-of-lt, not-suc-le-zero, suc-le-suc-iff, eq-or-lt-of-le, lt-suc-self, le-step}
+use native.Mathlib.Omega.{arith}
+use mathlib.Core.Path.{_≡_, refl, sym, ap, _∙_}
+use mathlib.Core.Bool.{Bool, true, false, cond, true≢false}
+use mathlib.Core.Logic.{_↔_, _⊎_, inl, inr, ⊎-elim}
+use mathlib.Core.List.{List, [], _∷_}
+use lib.Dec.{T, leb, ltb, lit≤}
+use lib.ListN.{getD}
+use borrow.Author.Tests.{ltb-true, ltb-false, le-ltb}
+use Rattle.model.specs.Answers.{given, refused, Judgement, passed, refuseIf, orElse, firstFault, lower, lowest, first}
+
+pub refused-not-passed : {n i : ℕ} → _≡_ {A = Judgement} (refused n i) passed → ⊥
+refused-not-passed e = let z : _≡_ {A = ℕ} 0 1 = cc in omega arith
+
+pub refuseIf-passed : (bad : Bool) (n i : ℕ) → (refuseIf bad n i ≡ passed) ↔ (bad ≡ false)
+unfolding refuseIf
+refuseIf-passed true n i = (λ e. absurd (refused-not-passed e), λ e. absurd (true≢false e))
+refuseIf-passed false n i = (λ e. refl, λ e. refl)
+
+pub orElse-passed : (a b : Judgement) → (orElse a b ≡ passed) ↔ ((a ≡ passed) × (b ≡ passed))
+orElse-passed (given tt) b = (λ e. (refl, e), λ h. h .1)
+orElse-passed (refused n i) b = (λ e. absurd (refused-not-passed e), λ h. absurd (refused-not-passed (h .0)))
+
+-- each of them passes
+abbrev pub AllPassed : List Judgement → Type 0
+AllPassed [] = Unit {0}
+AllPassed (j ∷ js) = (j ≡ passed) × AllPassed js
+
+pub first-passed : (js : List Judgement) → (first js ≡ passed) ↔ AllPassed js
+unfolding first
+first-passed [] = (λ e. tt, λ h. refl)
+first-passed (j ∷ js) =
+    let both = orElse-passed j (first js) in
+    (λ e. (both .0 e .0, first-passed js .0 (both .0 e .1)), λ h. both .1 (h .0, first-passed js .1 (h .1)))
+
+pub firstFault-passed : (n : ℕ) (bad : ℕ → Bool) (m : ℕ) → (firstFault n bad m ≡ passed) ↔ ((i : ℕ) → i < m → bad i ≡ false)
+unfolding firstFault
+firstFault-passed n bad zero = (λ e i h. absurd (not-suc-le-zero h), λ h. refl)
+firstFault-passed n bad (suc m) =
+    let both = orElse-passed (firstFault n bad m) (refuseIf (bad m) n m) in (
+      λ e i h.
+          ⊎-elim (λ g. ap bad g ∙ refuseIf-passed (bad m) n m .0 (both .0 e .1)) (λ g. firstFault-passed n bad m .0 (both .0 e .0) i g)
+          (eq-or-lt-of-le (suc-le-suc-iff .0 h)),
+      λ h. both .1 (firstFault-passed n bad m .1 (λ i g. h i (le-step g)), refuseIf-passed (bad m) n m .1 (h m (lt-suc-self m))),
+    )
+
+-- the refusal of a list at place i
+pub record FirstAt (bad : ℕ → Bool) (m i : ℕ) : Type 0 where
+  pub among : i < m
+  pub fault : bad i ≡ true
+  pub first : (j : ℕ) → j < i → bad j ≡ false
+
+pub firstFault-first : (n : ℕ) (bad : ℕ → Bool) (m i : ℕ) → FirstAt bad m i → firstFault n bad m ≡ refused n i
+unfolding firstFault refuseIf
+firstFault-first n bad zero i at = absurd (not-suc-le-zero (at .among))
+firstFault-first n bad (suc m) i at =
+    ⊎-elim
+    (λ e. rw (firstFault-passed n bad m .1 (λ j h. at .first j (rw e h)), ← e, at .fault))
+    (λ g. rw (firstFault-first n bad m i (record { among = g; fault = at .fault; first = at .first })))
+    (eq-or-lt-of-le (suc-le-suc-iff .0 (at .among)))
+
+-- passes, or refuses with the number m
+abbrev pub Numbered : ℕ → Judgement → Type 0
+Numbered m (given a) = Unit {0}
+Numbered m (refused n i) = n ≡ m
+
+pub refuseIf-numbered : (bad : Bool) (n i : ℕ) → Numbered n (refuseIf bad n i)
+unfolding refuseIf
+refuseIf-numbered true n i = refl
+refuseIf-numbered false n i = tt
+
+orElse-numbered : (n : ℕ) (a b : Judgement) → Numbered n a → Numbered n b → Numbered n (orElse a b)
+orElse-numbered n (given x) b h g = g
+orElse-numbered n (refused m i) b h g = h
+
+pub firstFault-numbered : (n : ℕ) (bad : ℕ → Bool) (m : ℕ) → Numbered n (firstFault n bad m)
+unfolding firstFault
+firstFault-numbered n bad zero = tt
+firstFault-numbered n bad (suc m) =
+    orElse-numbered n (firstFault n bad m) (refuseIf (bad m) n m) (firstFault-numbered n bad m) (refuseIf-numbered (bad m) n m)
+
+-- judgements whose numbers are at least n and do not fall
+pub data Ascending : (n : ℕ) → List Judgement → Type 0 where
+  none : {n : ℕ} → Ascending n []
+  next : {n : ℕ} (m : ℕ) {j : Judgement} {js : List Judgement} → n ≤ m → Numbered m j → Ascending m js → Ascending n (j ∷ js)
+
+-- one test more in front, and one list more
+pub test : {n : ℕ} (m : ℕ) (bad : Bool) (i : ℕ) {js : List Judgement} → T (leb n m) → Ascending m js → Ascending n (refuseIf bad m i ∷ js)
+test m bad i h js = next m (lit≤ h) (refuseIf-numbered bad m i) js
+
+pub list : {n : ℕ} (m : ℕ) (bad : ℕ → Bool) (l : ℕ) {js : List Judgement} → T (leb n m) → Ascending m js → Ascending n (firstFault m bad l ∷ js)
+list m bad l h js = next m (lit≤ h) (firstFault-numbered m bad l) js
+
+abbrev AtLeast : ℕ → Judgement → Type 0
+AtLeast m (given a) = Unit {0}
+AtLeast m (refused n i) = m ≤ n
+
+atLeast-le : {n m : ℕ} (j : Judgement) → n ≤ m → AtLeast m j → AtLeast n j
+atLeast-le (given a) h g = tt
+atLeast-le (refused k i) h g = le-trans h g
+
+first-atLeast : {n : ℕ} {js : List Judgement} → Ascending n js → AtLeast n (first js)
+unfolding first
+first-atLeast none = tt
+first-atLeast (next m {j = given a} {js = js} h g t) = atLeast-le (first js) h (first-atLeast t)
+first-atLeast (next m {j = refused k i} h g t) = omega arith
+
+-- a refusal is lower than any that has no lower number
+lower-first : {n m : ℕ} (i : ℕ) (j : Judgement) → n ≡ m → AtLeast m j → lower (refused n i) j ≡ refused n i
+lower-first i (given a) e h = refl
+lower-first {n} i (refused k l) e h = let g : n ≤ k = omega arith in rw (le-ltb k n g)
+
+pub lowest-first : {n : ℕ} {js : List Judgement} → Ascending n js → lowest js ≡ first js
+unfolding lowest first
+lowest-first none = refl
+lowest-first (next m {j = given a} h g t) = lowest-first t
+lowest-first (next m {j = refused k i} {js = js} h g t) = rw (lowest-first t) (lower-first i (first js) g (first-atLeast t))
+
+-- a judgement that refuses with a number of at most m
+abbrev AtMost : ℕ → Judgement → Type 0
+AtMost m (given a) = ⊥
+AtMost m (refused n i) = n ≤ m
+
+lower-left : (m i : ℕ) (b : Judgement) → AtMost m (lower (refused m i) b)
+lower-left m i (given a) = le-refl m
+lower-left m i (refused n j) = go (ltb n m) refl
+  where
+    go : (t : Bool) → ltb n m ≡ t → AtMost m (cond t (refused n j) (refused m i))
+    go true e = le-of-lt (ltb-true n m e)
+    go false e = le-refl m
+
+lower-right : (m : ℕ) (a b : Judgement) → AtMost m b → AtMost m (lower a b)
+lower-right m (given x) b h = h
+lower-right m (refused k i) (refused n j) h = go (ltb n k) refl
+  where
+    go : (t : Bool) → ltb n k ≡ t → AtMost m (cond t (refused n j) (refused k i))
+    go true e = h
+    go false e = le-trans (ltb-false n k e) h
+lower-right m (refused k i) (given x) h = absurd h
+
+-- no judgement refuses with a lower number than the one that is given
+pub lowest-least : (js : List Judgement) (l m i : ℕ) → getD js l passed ≡ refused m i → AtMost m (lowest js)
+unfolding lowest
+lowest-least [] l m i e = absurd (refused-not-passed (sym e))
+lowest-least (a ∷ js) zero m i e = rw e (lower-left m i (lowest js))
+lowest-least (a ∷ js) (suc l) m i e = lower-right m a (lowest js) (lowest-least js l m i e)
+
+lower-one : (a b : Judgement) → (lower a b ≡ a) ⊎ (lower a b ≡ b)
+lower-one (given a) b = inr refl
+lower-one (refused m i) (given b) = inl refl
+lower-one (refused m i) (refused n j) = go (ltb n m)
+  where
+    go : (t : Bool) → (cond {A = Judgement} t (refused n j) (refused m i) ≡ refused m i) ⊎ (cond {A = Judgement} t (refused n j) (refused m i) ≡ refused n j)
+    go true = inr refl
+    go false = inl refl
+
+-- the refusal that is given is one of them
+pub lowest-one : (js : List Judgement) (m i : ℕ) → lowest js ≡ refused m i → (l : ℕ) × (getD js l passed ≡ refused m i)
+unfolding lowest
+lowest-one [] m i e = absurd (refused-not-passed (sym e))
+lowest-one (a ∷ js) m i e =
+    ⊎-elim (λ g. (0, sym g ∙ e)) (λ g. let (l, h) = lowest-one js m i (sym g ∙ e) in (suc l, h)) (lower-one a (lowest js))

@@ -1,0 +1,160 @@
+-- What the checks of an operation say together. Definitions: specs/Faults.antt.
+--     outside-false            a number is not outside its range exactly when it keeps both ends
+--     recordingFaults-ascending, verdictFaults-ascending, scheduleFaults-ascending, leastFaults-ascending,
+--     tableFaults-ascending, lookupFaults-ascending, secondsFaults-ascending
+--                              the checks of an operation stand in the order of their numbers, so that the lowest is the first
+--     judgeOutcome-within      a recording is not refused exactly when it keeps every limit
+--     within-recorded          such a recording has all that the theorems ask
+-- Assumes nothing.
+use Prim.Native.Nat.{ℕ, zero, suc, _≤_, _<_}
+use mathlib.Core.Path.{_≡_, refl, sym, ap, _∙_}
+use mathlib.Core.Bool.{Bool, true, false, not, _||_, true≢false}
+use mathlib.Core.Logic.{_↔_, Iff·trans}
+use mathlib.Core.List.{List, _++_}
+use lib.Dec.{leb, ltb}
+use lib.ListN.{length}
+use borrow.Author.Tests.{ltb-false, le-ltb, leb-false, lt-leb, not-false, eqb-true, eq-eqb}
+use Rattle.rules.specs.Limits.{picturesMax, sizeMax, spanMax, tsMax, nuMax}
+use Rattle.rules.specs.Refusals as refusal
+use Rattle.model.specs.Recording.{Recording, Recorded, Within, pictures, size, tick, distance}
+use Rattle.model.specs.Arrival.{Bucket}
+use Rattle.model.specs.Lookup.{Table}
+use Rattle.model.specs.Answers.{Judgement, passed, first}
+use Rattle.model.specs.Faults.{outside, picturesCheck, lengthsCheck, clockCheck, badClock, sizeCheck, badTick, tickCheck, recordingFaults, verdictFaults, scheduleFaults, leastFaults, tableFaults, lookupFaults, secondsFaults}
+use Rattle.model.specs.Outcomes.{judgeOutcome}
+use Rattle.model.proofs.AnswersLaws.{refuseIf-passed, first-passed, firstFault-passed, Ascending, none, test, list, lowest-first}
+
+pub or-false : (a b : Bool) → (a || b ≡ false) ↔ ((a ≡ false) × (b ≡ false))
+or-false true b = (λ e. absurd (true≢false e), λ h. absurd (true≢false (h .0)))
+or-false false b = (λ e. (refl, e), λ h. h .1)
+
+pub outside-false : (lo hi x : ℕ) → (outside lo hi x ≡ false) ↔ ((lo ≤ x) × (x ≤ hi))
+outside-false lo hi x =
+    let both = or-false (ltb x lo) (ltb hi x) in
+    (λ e. (ltb-false x lo (both .0 e .0), ltb-false hi x (both .0 e .1)), λ h. both .1 (le-ltb x lo (h .0), le-ltb hi x (h .1)))
+
+pub recordingFaults-ascending : (k : Recording) {js : List Judgement} → Ascending refusal.tick js → Ascending refusal.pictures (recordingFaults k ++ js)
+recordingFaults-ascending k h =
+    test refusal.pictures _ 0 tt
+    (test refusal.lengths _ 0 tt
+    (test refusal.clock _ 0 tt
+    (list refusal.size _ (pictures k) tt
+    (list refusal.tick _ (pictures k) tt h))))
+
+pub verdictFaults-ascending : (k : Recording) (u : Bucket) {js : List Judgement} → Ascending refusal.bucket js → Ascending refusal.pictures (verdictFaults k u ++ js)
+verdictFaults-ascending k u h =
+    recordingFaults-ascending k
+    (test refusal.rate _ 0 tt (test refusal.bucket _ 0 tt h))
+
+pub scheduleFaults-ascending : (k : Recording) (u : Bucket) (at : ℕ) (starts ends : List ℕ) → Ascending refusal.pictures (scheduleFaults k u at starts ends)
+scheduleFaults-ascending k u at starts ends =
+    verdictFaults-ascending k u
+    (test refusal.room _ 0 tt (test refusal.room _ 0 tt none))
+
+pub leastFaults-ascending : (k : Recording) (rate : ℕ) → Ascending refusal.pictures (leastFaults k rate)
+leastFaults-ascending k rate = recordingFaults-ascending k (test refusal.rate _ 0 tt none)
+
+pub tableFaults-ascending : (k : Recording) (rates : List ℕ) (at : ℕ) (buffers fulls : List ℕ) → Ascending refusal.pictures (tableFaults k rates at buffers fulls)
+tableFaults-ascending k rates at buffers fulls =
+    recordingFaults-ascending k
+    (test refusal.rate _ 0 tt
+    (list refusal.rate _ (length rates) tt
+    (test refusal.room _ 0 tt
+    (test refusal.room _ 0 tt none))))
+
+pub lookupFaults-ascending : (w : Table) (r : ℕ) → Ascending refusal.lengths (lookupFaults w r)
+lookupFaults-ascending w r =
+    test refusal.lengths _ 0 tt
+    (test refusal.clock _ 0 tt
+    (test refusal.rate _ 0 tt
+    (list refusal.rate _ (length (w .rates)) tt
+    (test refusal.rate _ 0 tt
+    (list refusal.bucket _ (length (w .rates)) tt none)))))
+
+pub secondsFaults-ascending : (u : Bucket) → Ascending refusal.rate (secondsFaults u)
+secondsFaults-ascending u =
+    test refusal.rate _ 0 tt (test refusal.bucket _ 0 tt none)
+
+-- the tests of a recording, and what each asks
+badTick-false : (k : Recording) (i : ℕ) → (badTick k (suc i) ≡ false) ↔ ((tick k i < tick k (suc i)) × (distance k 0 (suc i) ≤ spanMax))
+badTick-false k i =
+    let both = or-false (leb (tick k (suc i)) (tick k i)) (ltb spanMax (distance k 0 (suc i))) in
+    (λ e. (leb-false _ _ (both .0 e .0), ltb-false _ _ (both .0 e .1)), λ h. both .1 (lt-leb _ _ (h .0), le-ltb _ _ (h .1)))
+
+clock-passed : (ts nu : ℕ) → (clockCheck ts nu ≡ passed) ↔ ((1 ≤ ts) × (ts ≤ tsMax) × (1 ≤ nu) × (nu ≤ nuMax))
+clock-passed ts nu =
+    let whole = refuseIf-passed (badClock ts nu) refusal.clock 0 in
+    let both = or-false (outside 1 tsMax ts) (outside 1 nuMax nu) in
+    let s = outside-false 1 tsMax ts in
+    let n = outside-false 1 nuMax nu in (
+      λ e.
+          let g = both .0 (whole .0 e) in
+          (s .0 (g .0) .0, s .0 (g .0) .1, n .0 (g .1) .0, n .0 (g .1) .1),
+      λ h. whole .1 (both .1 (s .1 (h .0, h .1), n .1 (h .2, h .3))),
+    )
+
+module _ (k : Recording) where
+  judge-first : judgeOutcome k ≡ first (recordingFaults k)
+  judge-first = lowest-first (recordingFaults-ascending k none)
+
+  count-passed : (picturesCheck k ≡ passed) ↔ ((1 ≤ pictures k) × (pictures k ≤ picturesMax))
+  count-passed = Iff·trans (refuseIf-passed _ refusal.pictures 0) (outside-false 1 picturesMax (pictures k))
+
+  lengths-passed : (lengthsCheck k ≡ passed) ↔ (length (k .ticks) ≡ pictures k)
+  lengths-passed =
+      Iff·trans (refuseIf-passed _ refusal.lengths 0)
+      (λ e. eqb-true _ _ (not-false _ e), λ e. ap not (eq-eqb _ _ e))
+
+  sizes-passed : (sizeCheck k ≡ passed) ↔ ((i : ℕ) → i < pictures k → (1 ≤ size k i) × (size k i ≤ sizeMax))
+  sizes-passed =
+      let all = firstFault-passed refusal.size (λ i. outside 1 sizeMax (size k i)) (pictures k) in
+      (λ e i h. outside-false 1 sizeMax (size k i) .0 (all .0 e i h), λ h. all .1 (λ i g. outside-false 1 sizeMax (size k i) .1 (h i g)))
+
+  ticks-passed : (tickCheck k ≡ passed) ↔ ((i : ℕ) → suc i < pictures k → (tick k i < tick k (suc i)) × (distance k 0 (suc i) ≤ spanMax))
+  ticks-passed =
+      let all = firstFault-passed refusal.tick (badTick k) (pictures k) in
+      (λ e i h. badTick-false k i .0 (all .0 e (suc i) h), λ h. all .1 (later h))
+    where
+      later : ((i : ℕ) → suc i < pictures k → (tick k i < tick k (suc i)) × (distance k 0 (suc i) ≤ spanMax)) → (i : ℕ) → i < pictures k → badTick k i ≡ false
+      later h zero g = refl
+      later h (suc i) g = badTick-false k i .1 (h i g)
+
+  pub judgeOutcome-within : (judgeOutcome k ≡ passed) ↔ Within k
+  judgeOutcome-within =
+      let each = first-passed (recordingFaults k) in (
+        λ e.
+            let h = each .0 (sym judge-first ∙ e) in
+            let count = count-passed .0 (h .0) in
+            let clock = clock-passed (k .ts) (k .nu) .0 (h .1 .1 .0) in
+            record {
+              some = count .0;
+              few = count .1;
+              paired = lengths-passed .0 (h .1 .0);
+              ticking = clock .0;
+              scale = clock .1;
+              lasting = clock .2;
+              units = clock .3;
+              sized = λ i g. sizes-passed .0 (h .1 .1 .1 .0) i g .0;
+              small = λ i g. sizes-passed .0 (h .1 .1 .1 .0) i g .1;
+              rising = λ i g. ticks-passed .0 (h .1 .1 .1 .1 .0) i g .0;
+              near = λ i g. ticks-passed .0 (h .1 .1 .1 .1 .0) i g .1;
+            },
+        λ w.
+            judge-first
+            ∙ each .1 (
+              count-passed .1 (w .some, w .few),
+              (
+                lengths-passed .1 (w .paired),
+                (
+                  clock-passed (k .ts) (k .nu) .1 (w .ticking, w .scale, w .lasting, w .units),
+                  (
+                    sizes-passed .1 (λ i g. (w .sized i g, w .small i g)),
+                    (ticks-passed .1 (λ i g. (w .rising i g, w .near i g)), tt),
+                  ),
+                ),
+              ),
+            ),
+      )
+
+pub within-recorded : {k : Recording} → Within k → Recorded k
+within-recorded w = record { some = w .some; sized = w .sized; rising = w .rising; ticking = w .ticking }

@@ -1,0 +1,10 @@
+pub mod NumbersLaws
+pub mod AnswersLaws
+pub mod RecordingLaws
+pub mod FaultsLaws
+pub mod ArrivalLaws
+pub mod LeastLaws
+pub mod LookupLaws
+pub mod Demand2
+pub mod Demand3
+pub mod Cases

@@ -1,0 +1,61 @@
+-- What an operation answers, and which refusal it gives where several apply (document 01, "When the planner says no").
+--     Answer        the value, or a refusal: its number and its place
+--     Judgement     an answer with no value: passed, or a refusal
+--     refuseIf      the refusal, if the test is true
+--     firstFault    the refusal at the first of n places that is at fault
+--     lowest        of several judgements the refusal with the lowest number; of equal numbers the first
+--     first         of several judgements the first refusal
+--     answerWith    the value, unless the judgement is a refusal
+--     writtenIf     a lent list afterwards: written, unless the judgement is a refusal
+-- Which judgements an operation takes, and when each refuses: specs/Faults.antt. Laws: proofs/AnswersLaws.antt. Assumes nothing.
+use Prim.Native.Nat.{ℕ, zero, suc}
+use mathlib.Core.Bool.{Bool, cond}
+use mathlib.Core.List.{List, [], _∷_}
+use lib.Dec.{ltb}
+use Rattle.model.specs.Numbers.{written}
+
+pub data Answer (A : Type 0) : Type 0 where
+  given : A → Answer A
+  refused : (number place : ℕ) → Answer A
+
+abbrev pub Judgement : Type 0
+Judgement = Answer (Unit {0})
+
+abbrev pub passed : Judgement
+passed = given tt
+
+unfoldable pub refuseIf : Bool → (number place : ℕ) → Judgement
+refuseIf bad number place = cond bad (refused number place) passed
+
+-- a, or b where a passed
+abbrev pub orElse : Judgement → Judgement → Judgement
+orElse (given a) b = b
+orElse (refused number place) b = refused number place
+
+unfoldable pub firstFault : (number : ℕ) (bad : ℕ → Bool) (n : ℕ) → Judgement
+firstFault number bad zero = passed
+firstFault number bad (suc n) = orElse (firstFault number bad n) (refuseIf (bad n) number n)
+
+-- the one with the lower number; a where they are equal
+abbrev pub lower : Judgement → Judgement → Judgement
+lower (given a) b = b
+lower (refused m i) (given b) = refused m i
+lower (refused m i) (refused n j) = cond (ltb n m) (refused n j) (refused m i)
+
+-- "Several at once: the lowest"
+unfoldable pub lowest : List Judgement → Judgement
+lowest [] = passed
+lowest (a ∷ more) = lower a (lowest more)
+
+unfoldable pub first : List Judgement → Judgement
+first [] = passed
+first (a ∷ more) = orElse a (first more)
+
+abbrev pub answerWith : {A : Type 0} → Judgement → A → Answer A
+answerWith (given a) x = given x
+answerWith (refused number place) x = refused number place
+
+-- "Results are zero on refusal and no lent list changes."
+abbrev pub writtenIf : Judgement → (l : List ℕ) (at : ℕ) (xs : List ℕ) → List ℕ
+writtenIf (given a) l at xs = written l at xs
+writtenIf (refused number place) l at xs = l

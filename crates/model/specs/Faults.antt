@@ -1,0 +1,133 @@
+-- When each refusal is given, and where (document 01, "When the planner says no"), and the faults that each operation may have.
+--     picturesCheck    1   picture count 0 or over the limit
+--     lengthsCheck     2   size and tick lists differ in length
+--     clockCheck       3   TS or NU outside its range
+--     sizeCheck        4   a size out of range, at the first such picture
+--     tickCheck        5   a tick not above the one before, or too far from the first, at the first such picture
+--     rateCheck        6   one rate out of range
+--     rateCountCheck   6   a rate or row count outside 1 to rowsMax
+--     rateListCheck    6   a rate out of range or not rising, at the first such rate
+--     bucketCheck      7   B or F of one bucket out of range
+--     roomCheck        8   a lent list has too little room from the given entry on
+--     recordingFaults, verdictFaults, scheduleFaults, leastFaults, tableFaults, lookupFaults, secondsFaults
+--                          what applies to each operation, in the order in which equal numbers come first
+-- The faults of parameter bits (9, 10, 11): specs/Params.antt. Laws: proofs/FaultsLaws.antt. Assumes nothing.
+use Prim.Native.Nat.{ℕ, zero, suc, _+_}
+use mathlib.Core.Bool.{Bool, false, not, _||_}
+use mathlib.Core.List.{List, [], _∷_, _++_}
+use lib.Dec.{leb, ltb, eqb}
+use lib.ListN.{length, getD}
+use Rattle.rules.specs.Limits.{picturesMax, sizeMax, spanMax, tsMax, nuMax, rateMax, rowsMax, bucketMax}
+use Rattle.rules.specs.Refusals as refusal
+use Rattle.model.specs.Recording.{Recording, pictures, size, tick, distance}
+use Rattle.model.specs.Arrival.{Bucket}
+use Rattle.model.specs.Lookup.{Table}
+use Rattle.model.specs.Answers.{Judgement, refuseIf, firstFault}
+
+-- x lies outside lo to hi
+abbrev pub outside : (lo hi x : ℕ) → Bool
+outside lo hi x = ltb x lo || ltb hi x
+
+abbrev pub picturesCheck : Recording → Judgement
+picturesCheck k = refuseIf (outside 1 picturesMax (pictures k)) refusal.pictures 0
+
+abbrev pub lengthsCheck : Recording → Judgement
+lengthsCheck k = refuseIf (not (eqb (length (k .ticks)) (pictures k))) refusal.lengths 0
+
+abbrev pub badClock : (ts nu : ℕ) → Bool
+badClock ts nu = outside 1 tsMax ts || outside 1 nuMax nu
+
+abbrev pub clockCheck : (ts nu : ℕ) → Judgement
+clockCheck ts nu = refuseIf (badClock ts nu) refusal.clock 0
+
+abbrev pub sizeCheck : Recording → Judgement
+sizeCheck k = firstFault refusal.size (λ i. outside 1 sizeMax (size k i)) (pictures k)
+
+-- "a tick not above the one before, or over 65,536 from the first"
+abbrev pub badTick : Recording → ℕ → Bool
+badTick k zero = false
+badTick k (suc i) = leb (tick k (suc i)) (tick k i) || ltb spanMax (distance k 0 (suc i))
+
+abbrev pub tickCheck : Recording → Judgement
+tickCheck k = firstFault refusal.tick (badTick k) (pictures k)
+
+abbrev pub badRate : ℕ → Bool
+badRate rate = outside 1 rateMax rate
+
+abbrev pub rateCheck : (rate : ℕ) → Judgement
+rateCheck rate = refuseIf (badRate rate) refusal.rate 0
+
+abbrev pub rateCountCheck : (rates : List ℕ) → Judgement
+rateCountCheck rates = refuseIf (outside 1 rowsMax (length rates)) refusal.rate 0
+
+-- "a rate out of range or not rising"
+abbrev pub badRateAt : (rates : List ℕ) → ℕ → Bool
+badRateAt rates zero = badRate (getD rates 0 0)
+badRateAt rates (suc i) = badRate (getD rates (suc i) 0) || leb (getD rates (suc i) 0) (getD rates i 0)
+
+abbrev pub rateListCheck : (rates : List ℕ) → Judgement
+rateListCheck rates = firstFault refusal.rate (badRateAt rates) (length rates)
+
+-- "buffer B from 1 to 68,719,476,736 bits (2^36), start fullness F from 1 to B"
+abbrev pub badBucket : (b f : ℕ) → Bool
+badBucket b f = outside 1 bucketMax b || outside 1 b f
+
+abbrev pub bucketCheck : Bucket → Judgement
+bucketCheck u = refuseIf (badBucket (u .buffer) (u .fullness)) refusal.bucket 0
+
+-- "a lent output has too little room from the given entry .. on, a start past its end included"
+abbrev pub roomCheck : (l : List ℕ) (at n : ℕ) → Judgement
+roomCheck l at n = refuseIf (ltb (length l) (at + n)) refusal.room 0
+
+abbrev pub recordingFaults : Recording → List Judgement
+recordingFaults k = picturesCheck k ∷ lengthsCheck k ∷ clockCheck (k .ts) (k .nu) ∷ sizeCheck k ∷ tickCheck k ∷ []
+
+abbrev pub verdictFaults : Recording → Bucket → List Judgement
+verdictFaults k u = recordingFaults k ++ (rateCheck (u .rate) ∷ bucketCheck u ∷ [])
+
+abbrev pub scheduleFaults : Recording → Bucket → (at : ℕ) (starts ends : List ℕ) → List Judgement
+scheduleFaults k u at starts ends =
+    verdictFaults k u ++ (roomCheck starts at (pictures k) ∷ roomCheck ends at (pictures k) ∷ [])
+
+abbrev pub leastFaults : Recording → (rate : ℕ) → List Judgement
+leastFaults k rate = recordingFaults k ++ (rateCheck rate ∷ [])
+
+abbrev pub tableFaults : Recording → (rates : List ℕ) (at : ℕ) (buffers fulls : List ℕ) → List Judgement
+tableFaults k rates at buffers fulls =
+    recordingFaults k
+    ++ (rateCountCheck rates
+    ∷ rateListCheck rates
+    ∷ roomCheck buffers at (length rates)
+    ∷ roomCheck fulls at (length rates)
+    ∷ [])
+
+-- "a table's own lists, differ in length"
+abbrev pub tableLengthsCheck : Table → Judgement
+tableLengthsCheck w =
+    refuseIf
+    (not (eqb (length (w .buffers)) (length (w .rates))) || not (eqb (length (w .fulls)) (length (w .rates))))
+    refusal.lengths
+    0
+
+-- "TS, NU or span outside its range"
+abbrev pub tableClockCheck : Table → Judgement
+tableClockCheck w = refuseIf (badClock (w .ts) (w .nu) || ltb spanMax (w .ticks)) refusal.clock 0
+
+-- B or F of a row out of range, at the first such row
+abbrev pub rowsCheck : Table → Judgement
+rowsCheck w =
+    firstFault refusal.bucket (λ i. badBucket (getD (w .buffers) i 0) (getD (w .fulls) i 0)) (length (w .rates))
+
+-- "Within 6, a count comes first, then the list, then a single rate."
+abbrev pub lookupFaults : Table → (r : ℕ) → List Judgement
+lookupFaults w r =
+    tableLengthsCheck w
+    ∷ tableClockCheck w
+    ∷ rateCountCheck (w .rates)
+    ∷ rateListCheck (w .rates)
+    ∷ rateCheck r
+    ∷ rowsCheck w
+    ∷ []
+
+abbrev pub secondsFaults : Bucket → List Judgement
+secondsFaults u = rateCheck (u .rate) ∷ bucketCheck u ∷ []

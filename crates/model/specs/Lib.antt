@@ -1,0 +1,12 @@
+pub mod Numbers
+pub mod Recording
+pub mod Arrival
+pub mod Least
+pub mod Lookup
+pub mod Answers
+pub mod Faults
+pub mod Outcomes
+pub mod Demands
+pub mod Codes
+pub mod Fields
+pub mod Params

@@ -1,0 +1,68 @@
+-- Looking up a rate in a table (document 01, under that heading).
+--     Table        rows of rate, buffer and fullness, with the clock and span that a lookup takes
+--     rowsUpTo     the number of the last row, counted from 1, whose rate is at most r; 0 for none
+--     Spot         where a rate lies: below the first row, on a row, between a row and the next, above the last
+--     spotOf       the spot of a rate
+--     growth       by how much both figures grow below the first row
+--     blend        between two rows: interpolated straight and rounded up
+--     figureAt     the figure X at a rate, for X = B and X = F
+--     lookupOf     both figures, as a bucket
+-- Laws: proofs/LookupLaws.antt. Assumes nothing.
+use Prim.Native.Nat.{ℕ, zero, suc, _+_, _-_, _*_}
+use mathlib.Core.Bool.{cond}
+use mathlib.Core.List.{List}
+use lib.Dec.{leb, eqb}
+use lib.ListN.{length, getD}
+use Rattle.model.specs.Numbers.{roundUp}
+use Rattle.model.specs.Arrival.{Bucket, bucket}
+
+pub record Table : Type 0 where
+  pub rates : List ℕ
+  pub buffers : List ℕ
+  pub fulls : List ℕ
+  pub ts : ℕ
+  pub nu : ℕ
+  pub ticks : ℕ
+
+abbrev pub table : (rates buffers fulls : List ℕ) (ts nu ticks : ℕ) → Table
+table rates buffers fulls ts nu ticks =
+    record { rates = rates; buffers = buffers; fulls = fulls; ts = ts; nu = nu; ticks = ticks }
+
+unfoldable pub rowsUpTo : (rates : List ℕ) (r n : ℕ) → ℕ
+rowsUpTo rates r zero = 0
+rowsUpTo rates r (suc n) = cond (leb (getD rates n 0) r) (suc n) (rowsUpTo rates r n)
+
+pub data Spot : Type 0 where
+  below : Spot
+  on : (row : ℕ) → Spot
+  between : (row : ℕ) → Spot
+  above : Spot
+
+-- the spot, from the last row at or below r
+abbrev pub spotAfter : (rates : List ℕ) (r row : ℕ) → Spot
+spotAfter rates r zero = below
+spotAfter rates r (suc a) = cond (eqb (getD rates a 0) r) (on a) (cond (eqb (suc a) (length rates)) above (between a))
+
+abbrev pub spotOf : (rates : List ℕ) (r : ℕ) → Spot
+spotOf rates r = spotAfter rates r (rowsUpTo rates r (length rates))
+
+-- "(R1 - r) x NU x span / TS, rounded up"
+abbrev pub growth : Table → (r : ℕ) → ℕ
+growth w r = roundUp ((getD (w .rates) 0 0 - r) * w .nu * w .ticks) (w .ts)
+
+-- "(Xa x (Rb - r) + Xb x (r - Ra)) / (Rb - Ra), rounded up"
+abbrev pub blend : (ra rb xa xb r : ℕ) → ℕ
+blend ra rb xa xb r = roundUp (xa * (rb - r) + xb * (r - ra)) (rb - ra)
+
+-- "On a row: that row." "Below the first row: both figures grow." "Above the last row: the last row's figures."
+abbrev pub figureOn : Table → (xs : List ℕ) (r : ℕ) → Spot → ℕ
+figureOn w xs r below = getD xs 0 0 + growth w r
+figureOn w xs r (on i) = getD xs i 0
+figureOn w xs r (between i) = blend (getD (w .rates) i 0) (getD (w .rates) (suc i) 0) (getD xs i 0) (getD xs (suc i) 0) r
+figureOn w xs r above = getD xs (length (w .rates) - 1) 0
+
+abbrev pub figureAt : Table → (xs : List ℕ) (r : ℕ) → ℕ
+figureAt w xs r = figureOn w xs r (spotOf (w .rates) r)
+
+abbrev pub lookupOf : Table → (r : ℕ) → Bucket
+lookupOf w r = bucket r (figureAt w (w .buffers) r) (figureAt w (w .fulls) r)
