@@ -5,6 +5,9 @@ pub mod FaultsLaws
 pub mod ArrivalLaws
 pub mod LeastLaws
 pub mod LookupLaws
+pub mod CodesLaws
+pub mod PutBitsLaws
+pub mod FieldsLaws
 pub mod Demand2
 pub mod Demand3
 pub mod Cases

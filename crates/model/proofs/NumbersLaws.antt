@@ -7,22 +7,26 @@
 --     largest-le          and at most any bound of all
 --     largest-attained    and is one of them
 --     largest-scaled      and so is a multiple of it, of the multiples
+--     neighbours-all      a transitive relation between neighbours holds over all pairs
 --     rising-lt           of entries that rise a later one is higher
 --     rising-le           and no later one is lower
 --     listOf-length       a list of n numbers has n entries
 --     listOf-at           and f i at entry i
+--     listOf-append       a list of a + b numbers is one of a and then one of b
+--     listOf-getD         a list is the list of its entries
+--     append-each         what is true of each entry of two lists is true of each entry of one behind the other
 --     written-length      a list written in part keeps its length
 -- Assumes nothing.
 use Prim.Native.Nat.{ℕ, zero, suc, _+_, _-_, _*_, _≤_, _<_, zero-le}
-use native.Mathlib.Nat.{le-trans, le-refl, le-of-lt, le-of-eq, lt-trans, lt-of-not-le, lt-suc-self, zero-lt-suc, not-suc-le-zero, suc-le-suc-iff, eq-or-lt-of-le, div-lt-iff-lt-mul, div-mul-le-self, mul-zero, zero-max, le-max-left, le-max-right, max-le, max-eq-left, max-eq-right}
-use native.Mathlib.Decide.{decLe}
+use native.Mathlib.Nat.{add-zero, add-suc, zero-add, suc-add, le-trans, le-refl, le-of-lt, le-of-eq, lt-trans, lt-of-not-le, lt-suc-self, zero-lt-suc, not-suc-le-zero, suc-le-suc-iff, eq-or-lt-of-le, div-lt-iff-lt-mul, div-mul-le-self, mul-zero, zero-max, le-max-left, le-max-right, max-le, max-eq-left, max-eq-right}
+use native.Mathlib.Decide.{decLe, le-ind}
 use native.Mathlib.Numerals.{add-one}
 use native.Mathlib.Omega.{arith}
 use mathlib.Core.Path.{_≡_, refl, sym, ap, _∙_}
 use mathlib.Core.Logic.{_↔_, ⊎-elim}
-use mathlib.Core.List.{List, [], _∷_}
+use mathlib.Core.List.{List, [], _∷_, _++_, append-nil, append-assoc}
 use lib.ListN.{length, getD, length-append, length-take, length-drop, List·getD-append}
-use lib.Seq.{getD-at}
+use lib.Seq.{getD-at, ext-getD}
 use lib.Dec.{lit<}
 use Rattle.model.specs.Numbers.{roundUp, largest, Rising, listOf, written}
 
@@ -69,10 +73,14 @@ unfolding largest
 largest-scaled c f zero h = rw mul-zero zero-le
 largest-scaled c f (suc n) h = let (i, g, e) = largest-attained f (suc n) (zero-lt-suc n) in rw (← e) (h i g)
 
+-- a transitive relation between neighbours holds over all pairs
+pub neighbours-all : (R : ℕ → ℕ → Type 0) → ((a b c : ℕ) → R a b → R b c → R a c) → (f : ℕ → ℕ) (n : ℕ)
+    → ((i : ℕ) → suc i < n → R (f i) (f (suc i))) → (i j : ℕ) → i < j → j < n → R (f i) (f j)
+neighbours-all R trans f n next i j =
+    le-ind (λ j. j < n → R (f i) (f j)) (next i) (λ j h before g. trans _ _ _ (before (omega arith)) (next j g)) j
+
 pub rising-lt : (l : List ℕ) {n : ℕ} → Rising l n → (i j : ℕ) → i < j → j < n → getD l i 0 < getD l j 0
-rising-lt l up i zero h g = absurd (not-suc-le-zero h)
-rising-lt l up i (suc j) h g =
-    ⊎-elim (λ e. rw e (up j g)) (λ lt. lt-trans (rising-lt l up i j lt (le-of-lt g)) (up j g)) (eq-or-lt-of-le (suc-le-suc-iff .0 h))
+rising-lt l {n} = neighbours-all (λ a b. a < b) (λ a b c. lt-trans) (λ i. getD l i 0) n
 
 pub rising-le : (l : List ℕ) {n : ℕ} → Rising l n → (i j : ℕ) → i ≤ j → j < n → getD l i 0 ≤ getD l j 0
 rising-le l up i j h g =
@@ -91,6 +99,26 @@ listOf-at f (suc n) d {i} h =
     ⊎-elim (λ e. rw e (getD-at (listOf f n) (f n) [] d n len))
     (λ g. List·getD-append (listOf f n) (f n ∷ []) d i (omega arith) ∙ listOf-at f n d g)
     (eq-or-lt-of-le (suc-le-suc-iff .0 h))
+
+pub listOf-append : (f : ℕ → ℕ) (a b : ℕ) → listOf f (a + b) ≡ listOf f a ++ listOf (λ i. f (a + i)) b
+unfolding listOf
+listOf-append f a zero = simp (add-zero, append-nil)
+listOf-append f a (suc b) = simp (add-suc, listOf-append f a b, append-assoc)
+
+pub listOf-getD : (l : List ℕ) → listOf (λ i. getD l i 0) (length l) ≡ l
+listOf-getD l =
+    ext-getD 0 _ l (listOf-length _ (length l)) (λ i h. listOf-at (λ i. getD l i 0) (length l) 0 (rw listOf-length at h))
+
+-- P i a is true of each entry a of a list, at its place i
+abbrev pub Each : (P : ℕ → ℕ → Type 0) (l : List ℕ) → Type 0
+Each P l = (i : ℕ) → i < length l → P i (getD l i 0)
+
+-- what holds of each entry of two lists, by its place, holds of each entry of their append
+pub append-each : (P : ℕ → ℕ → Type 0) (a b : List ℕ) → Each P a → Each (λ i. P (length a + i)) b → Each P (a ++ b)
+append-each P [] b front back i h = rw zero-add at (back i h)
+append-each P (v ∷ a) b front back zero h = front zero (omega arith)
+append-each P (v ∷ a) b front back (suc i) h =
+    append-each (λ i. P (suc i)) a b (λ i g. front (suc i) (omega arith)) (λ i g. rw suc-add at (back i g)) i (omega arith)
 
 pub written-length : (l : List ℕ) (at : ℕ) (xs : List ℕ) → at + length xs ≤ length l → length (written l at xs) ≡ length l
 written-length l at xs h = simp (length-append, length-take, length-drop) (omega arith)
