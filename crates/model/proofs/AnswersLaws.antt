@@ -1,17 +1,20 @@
 -- What is true of judgements, and of the refusal that is given where several apply. Definitions: specs/Answers.antt.
 --     refuseIf-passed      a test refuses exactly when it is true
 --     orElse-passed        of two judgements both pass, or the first refusal is given
+--     test-false, test-true, skip, here    how the first refusal is found, judgement by judgement
 --     first-passed         several judgements pass exactly when each does
 --     firstFault-passed    a list passes exactly when no place is at fault
---     firstFault-first     a refusal stands at the first place at fault
+--     noneBad-zero, noneBad-more, firstBad-here, firstBad-none    how a search finds the first place at fault
+--     firstFault-found     a refusal stands at the first place at fault
+--     firstFault-none      and there is none where no place is
 --     Numbered             a judgement that passes or refuses with a given number
 --     Ascending            judgements in the order of their numbers
 --     lowest-first         of such the lowest is the first
 --     lowest-least         no judgement has a lower number than the refusal that is given
 --     lowest-one           and that is one of them
 -- Assumes nothing.
-use Prim.Native.Nat.{ℕ, zero, suc, _≤_, _<_}
-use native.Mathlib.Nat.{le-refl, le-trans, le-of-lt, not-suc-le-zero, suc-le-suc-iff, eq-or-lt-of-le, lt-suc-self, le-step}
+use Prim.Native.Nat.{ℕ, zero, suc, _+_, _≤_, _<_}
+use native.Mathlib.Nat.{le-refl, not-le-of-lt, le-trans, le-of-lt, not-suc-le-zero, suc-le-suc-iff, eq-or-lt-of-le, lt-suc-self, le-step}
 use native.Mathlib.Omega.{arith}
 use mathlib.Core.Path.{_≡_, refl, sym, ap, _∙_}
 use mathlib.Core.Bool.{Bool, true, false, cond, true≢false}
@@ -19,8 +22,9 @@ use mathlib.Core.Logic.{_↔_, _⊎_, inl, inr, ⊎-elim}
 use mathlib.Core.List.{List, [], _∷_}
 use lib.Dec.{T, leb, ltb, lit≤}
 use lib.ListN.{getD}
+use borrow.Author.Count.{below-more}
 use borrow.Author.Tests.{ltb-true, ltb-false, le-ltb}
-use Rattle.model.specs.Answers.{given, refused, Judgement, passed, refuseIf, orElse, firstFault, lower, lowest, first}
+use Rattle.model.specs.Answers.{given, refused, Judgement, passed, refuseIf, orElse, firstFault, NoneBad, FirstBad, lower, lowest, first}
 
 pub refused-not-passed : {n i : ℕ} → _≡_ {A = Judgement} (refused n i) passed → ⊥
 refused-not-passed e = let z : _≡_ {A = ℕ} 0 1 = cc in omega arith
@@ -33,6 +37,22 @@ refuseIf-passed false n i = (λ e. refl, λ e. refl)
 pub orElse-passed : (a b : Judgement) → (orElse a b ≡ passed) ↔ ((a ≡ passed) × (b ≡ passed))
 orElse-passed (given tt) b = (λ e. (refl, e), λ h. h .1)
 orElse-passed (refused n i) b = (λ e. absurd (refused-not-passed e), λ h. absurd (refused-not-passed (h .0)))
+
+-- how the first refusal is found: a test that is false or true, a judgement that passes or refuses
+pub test-false : {bad : Bool} (n i : ℕ) → bad ≡ false → refuseIf bad n i ≡ passed
+test-false {bad} n i = refuseIf-passed bad n i .1
+
+pub test-true : {bad : Bool} (n i : ℕ) → bad ≡ true → refuseIf bad n i ≡ refused n i
+unfolding refuseIf
+test-true n i e = rw e
+
+pub skip : {j : Judgement} (js : List Judgement) → j ≡ passed → first (j ∷ js) ≡ first js
+unfolding first
+skip js e = rw e
+
+pub here : {j : Judgement} {n i : ℕ} (js : List Judgement) → j ≡ refused n i → first (j ∷ js) ≡ refused n i
+unfolding first
+here js e = rw e
 
 -- each of them passes
 abbrev pub AllPassed : List Judgement → Type 0
@@ -57,20 +77,29 @@ firstFault-passed n bad (suc m) =
       λ h. both .1 (firstFault-passed n bad m .1 (λ i g. h i (le-step g)), refuseIf-passed (bad m) n m .1 (h m (lt-suc-self m))),
     )
 
--- the refusal of a list at place i
-pub record FirstAt (bad : ℕ → Bool) (m i : ℕ) : Type 0 where
-  pub among : i < m
-  pub fault : bad i ≡ true
-  pub first : (j : ℕ) → j < i → bad j ≡ false
+-- how a search finds the first place at fault: nothing passed yet, one place more passed, a fault met, all passed
+pub noneBad-zero : (bad : ℕ → Bool) → NoneBad bad 0
+noneBad-zero bad j h = absurd (not-suc-le-zero h)
 
-pub firstFault-first : (n : ℕ) (bad : ℕ → Bool) (m i : ℕ) → FirstAt bad m i → firstFault n bad m ≡ refused n i
+pub noneBad-more : (bad : ℕ → Bool) (i : ℕ) → NoneBad bad i → bad i ≡ false → NoneBad bad (i + 1)
+noneBad-more bad i = below-more (λ j. bad j ≡ false) i
+
+pub firstBad-here : (bad : ℕ → Bool) (n i : ℕ) → NoneBad bad i → i < n → bad i ≡ true → FirstBad bad n i
+firstBad-here bad n i before h fault = record { within = le-of-lt h; fault = λ _. fault; before = before }
+
+pub firstBad-none : (bad : ℕ → Bool) (n i : ℕ) → NoneBad bad i → i ≤ n → n ≤ i → FirstBad bad n i
+firstBad-none bad n i before h end = record { within = h; fault = λ g. absurd (not-le-of-lt g end); before = before }
+
+pub firstFault-found : (n : ℕ) (bad : ℕ → Bool) (m i : ℕ) → FirstBad bad m i → i < m → firstFault n bad m ≡ refused n i
 unfolding firstFault refuseIf
-firstFault-first n bad zero i at = absurd (not-suc-le-zero (at .among))
-firstFault-first n bad (suc m) i at =
-    ⊎-elim
-    (λ e. rw (firstFault-passed n bad m .1 (λ j h. at .first j (rw e h)), ← e, at .fault))
-    (λ g. rw (firstFault-first n bad m i (record { among = g; fault = at .fault; first = at .first })))
-    (eq-or-lt-of-le (suc-le-suc-iff .0 (at .among)))
+firstFault-found n bad zero i at h = absurd (not-suc-le-zero h)
+firstFault-found n bad (suc m) i at h =
+    ⊎-elim (λ e. rw (firstFault-passed n bad m .1 (λ j g. at .before j (rw e g)), ← e, at .fault h))
+    (λ g. rw (firstFault-found n bad m i (record { within = le-of-lt g; fault = λ _. at .fault h; before = at .before }) g))
+    (eq-or-lt-of-le (suc-le-suc-iff .0 h))
+
+pub firstFault-none : (n : ℕ) (bad : ℕ → Bool) (m i : ℕ) → FirstBad bad m i → m ≤ i → firstFault n bad m ≡ passed
+firstFault-none n bad m i at h = firstFault-passed n bad m .1 (λ j g. at .before j (le-trans g h))
 
 -- passes, or refuses with the number m
 abbrev pub Numbered : ℕ → Judgement → Type 0

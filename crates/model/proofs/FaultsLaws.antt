@@ -1,26 +1,32 @@
 -- What the checks of an operation say together. Definitions: specs/Faults.antt.
 --     outside-false            a number is not outside its range exactly when it keeps both ends
+--     entryBefore-more         one entry on, the entry before is this one
+--     badTick-after            after the first picture a tick is judged by the one before it and the first
 --     recordingFaults-ascending, verdictFaults-ascending, scheduleFaults-ascending, leastFaults-ascending,
 --     tableFaults-ascending, lookupFaults-ascending, secondsFaults-ascending
 --                              the checks of an operation stand in the order of their numbers, so that the lowest is the first
+--     judge-first              so a recording's refusal is the first
 --     judgeOutcome-within      a recording is not refused exactly when it keeps every limit
+--     rateList-within          a list of rates is not refused exactly when all are in range and rise
 --     within-recorded          such a recording has all that the theorems ask
 -- Assumes nothing.
-use Prim.Native.Nat.{ℕ, zero, suc, _≤_, _<_}
+use Prim.Native.Nat.{ℕ, zero, suc, _+_, _-_, _≤_, _<_}
+use native.Mathlib.Nat.{not-suc-le-zero}
+use native.Mathlib.Numerals.{add-one}
 use mathlib.Core.Path.{_≡_, refl, sym, ap, _∙_}
 use mathlib.Core.Bool.{Bool, true, false, not, _||_, true≢false}
 use mathlib.Core.Logic.{_↔_, Iff·trans}
 use mathlib.Core.List.{List, _++_}
 use lib.Dec.{leb, ltb}
-use lib.ListN.{length}
+use lib.ListN.{length, getD}
 use borrow.Author.Tests.{ltb-false, le-ltb, leb-false, lt-leb, not-false, eqb-true, eq-eqb}
-use Rattle.rules.specs.Limits.{picturesMax, sizeMax, spanMax, tsMax, nuMax}
+use Rattle.rules.specs.Limits.{picturesMax, sizeMax, spanMax, tsMax, nuMax, rateMax}
 use Rattle.rules.specs.Refusals as refusal
 use Rattle.model.specs.Recording.{Recording, Recorded, Within, pictures, size, tick, distance}
 use Rattle.model.specs.Arrival.{Bucket}
 use Rattle.model.specs.Lookup.{Table}
 use Rattle.model.specs.Answers.{Judgement, passed, first}
-use Rattle.model.specs.Faults.{outside, picturesCheck, lengthsCheck, clockCheck, badClock, sizeCheck, badTick, tickCheck, recordingFaults, verdictFaults, scheduleFaults, leastFaults, tableFaults, lookupFaults, secondsFaults}
+use Rattle.model.specs.Faults.{outside, picturesCheck, lengthsCheck, clockCheck, badClock, sizeCheck, badSize, entryBefore, badTick, tickCheck, badRate, badRateAt, rateListCheck, RatesWithin, recordingFaults, verdictFaults, scheduleFaults, leastFaults, tableFaults, lookupFaults, secondsFaults}
 use Rattle.model.specs.Outcomes.{judgeOutcome}
 use Rattle.model.proofs.AnswersLaws.{refuseIf-passed, first-passed, firstFault-passed, Ascending, none, test, list, lowest-first}
 
@@ -32,6 +38,13 @@ pub outside-false : (lo hi x : ℕ) → (outside lo hi x ≡ false) ↔ ((lo ≤
 outside-false lo hi x =
     let both = or-false (ltb x lo) (ltb hi x) in
     (λ e. (ltb-false x lo (both .0 e .0), ltb-false hi x (both .0 e .1)), λ h. both .1 (le-ltb x lo (h .0), le-ltb hi x (h .1)))
+
+pub entryBefore-more : (l : List ℕ) (i : ℕ) → entryBefore l (i + 1) ≡ getD l i 0
+entryBefore-more l i = rw add-one
+
+pub badTick-after : (ticks : List ℕ) (i : ℕ) → 1 ≤ i → badTick ticks i ≡ (leb (getD ticks i 0) (entryBefore ticks i) || ltb spanMax (getD ticks i 0 - getD ticks 0 0))
+badTick-after ticks zero h = absurd (not-suc-le-zero h)
+badTick-after ticks (suc i) h = refl
 
 pub recordingFaults-ascending : (k : Recording) {js : List Judgement} → Ascending refusal.tick js → Ascending refusal.pictures (recordingFaults k ++ js)
 recordingFaults-ascending k h =
@@ -76,7 +89,7 @@ secondsFaults-ascending u =
     test refusal.rate _ 0 tt (test refusal.bucket _ 0 tt none)
 
 -- the tests of a recording, and what each asks
-badTick-false : (k : Recording) (i : ℕ) → (badTick k (suc i) ≡ false) ↔ ((tick k i < tick k (suc i)) × (distance k 0 (suc i) ≤ spanMax))
+badTick-false : (k : Recording) (i : ℕ) → (badTick (k .ticks) (suc i) ≡ false) ↔ ((tick k i < tick k (suc i)) × (distance k 0 (suc i) ≤ spanMax))
 badTick-false k i =
     let both = or-false (leb (tick k (suc i)) (tick k i)) (ltb spanMax (distance k 0 (suc i))) in
     (λ e. (leb-false _ _ (both .0 e .0), ltb-false _ _ (both .0 e .1)), λ h. both .1 (lt-leb _ _ (h .0), le-ltb _ _ (h .1)))
@@ -94,7 +107,7 @@ clock-passed ts nu =
     )
 
 module _ (k : Recording) where
-  judge-first : judgeOutcome k ≡ first (recordingFaults k)
+  pub judge-first : judgeOutcome k ≡ first (recordingFaults k)
   judge-first = lowest-first (recordingFaults-ascending k none)
 
   count-passed : (picturesCheck k ≡ passed) ↔ ((1 ≤ pictures k) × (pictures k ≤ picturesMax))
@@ -107,15 +120,15 @@ module _ (k : Recording) where
 
   sizes-passed : (sizeCheck k ≡ passed) ↔ ((i : ℕ) → i < pictures k → (1 ≤ size k i) × (size k i ≤ sizeMax))
   sizes-passed =
-      let all = firstFault-passed refusal.size (λ i. outside 1 sizeMax (size k i)) (pictures k) in
+      let all = firstFault-passed refusal.size (badSize (k .sizes)) (pictures k) in
       (λ e i h. outside-false 1 sizeMax (size k i) .0 (all .0 e i h), λ h. all .1 (λ i g. outside-false 1 sizeMax (size k i) .1 (h i g)))
 
   ticks-passed : (tickCheck k ≡ passed) ↔ ((i : ℕ) → suc i < pictures k → (tick k i < tick k (suc i)) × (distance k 0 (suc i) ≤ spanMax))
   ticks-passed =
-      let all = firstFault-passed refusal.tick (badTick k) (pictures k) in
+      let all = firstFault-passed refusal.tick (badTick (k .ticks)) (pictures k) in
       (λ e i h. badTick-false k i .0 (all .0 e (suc i) h), λ h. all .1 (later h))
     where
-      later : ((i : ℕ) → suc i < pictures k → (tick k i < tick k (suc i)) × (distance k 0 (suc i) ≤ spanMax)) → (i : ℕ) → i < pictures k → badTick k i ≡ false
+      later : ((i : ℕ) → suc i < pictures k → (tick k i < tick k (suc i)) × (distance k 0 (suc i) ≤ spanMax)) → (i : ℕ) → i < pictures k → badTick (k .ticks) i ≡ false
       later h zero g = refl
       later h (suc i) g = badTick-false k i .1 (h i g)
 
@@ -155,6 +168,30 @@ module _ (k : Recording) where
               ),
             ),
       )
+
+pub rateList-within : (rates : List ℕ) → (rateListCheck rates ≡ passed) ↔ RatesWithin rates
+rateList-within rates =
+    let all = firstFault-passed refusal.rate (badRateAt rates) (length rates) in (
+      λ e.
+          record {
+            some = λ i h. badRateAt-false i .0 (all .0 e i h) .0;
+            small = λ i h. badRateAt-false i .0 (all .0 e i h) .1;
+            rising = λ i h. badRateAt-false (suc i) .0 (all .0 e (suc i) h) .2;
+          },
+      λ w. all .1 (passes w),
+    )
+  where
+    badRateAt-false : (i : ℕ) → (badRateAt rates i ≡ false) ↔ ((1 ≤ getD rates i 0) × (getD rates i 0 ≤ rateMax) × (entryBefore rates i < getD rates i 0))
+    badRateAt-false i =
+        let both = or-false (badRate (getD rates i 0)) (leb (getD rates i 0) (entryBefore rates i)) in
+        let range = outside-false 1 rateMax (getD rates i 0) in (
+          λ e. let (some, small) = range .0 (both .0 e .0) in (some, small, leb-false _ _ (both .0 e .1)),
+          λ h. both .1 (range .1 (h .0, h .1), lt-leb _ _ (h .2)),
+        )
+
+    passes : RatesWithin rates → (i : ℕ) → i < length rates → badRateAt rates i ≡ false
+    passes w zero h = badRateAt-false 0 .1 (w .some 0 h, w .small 0 h, w .some 0 h)
+    passes w (suc i) h = badRateAt-false (suc i) .1 (w .some (suc i) h, w .small (suc i) h, w .rising i h)
 
 pub within-recorded : {k : Recording} → Within k → Recorded k
 within-recorded w = record { some = w .some; sized = w .sized; rising = w .rising; ticking = w .ticking }

@@ -4,6 +4,7 @@ pub mod RecordingLaws
 pub mod FaultsLaws
 pub mod ArrivalLaws
 pub mod LeastLaws
+pub mod MeterLaws
 pub mod LookupLaws
 pub mod CodesLaws
 pub mod PutBitsLaws

@@ -3,13 +3,16 @@
 --     Judgement     an answer with no value: passed, or a refusal
 --     refuseIf      the refusal, if the test is true
 --     firstFault    the refusal at the first of n places that is at fault
+--     NoneBad       none of the first i places is at fault
+--     FirstBad      the first of n places that is at fault, or n where none is
 --     lowest        of several judgements the refusal with the lowest number; of equal numbers the first
 --     first         of several judgements the first refusal
 --     answerWith    the value, unless the judgement is a refusal
 --     writtenIf     a lent list afterwards: written, unless the judgement is a refusal
 -- Which judgements an operation takes, and when each refuses: specs/Faults.antt. Laws: proofs/AnswersLaws.antt. Assumes nothing.
-use Prim.Native.Nat.{ℕ, zero, suc}
-use mathlib.Core.Bool.{Bool, cond}
+use Prim.Native.Nat.{ℕ, zero, suc, _≤_, _<_}
+use mathlib.Core.Path.{_≡_}
+use mathlib.Core.Bool.{Bool, true, false, cond}
 use mathlib.Core.List.{List, [], _∷_}
 use lib.Dec.{ltb}
 use Rattle.model.specs.Numbers.{written}
@@ -35,6 +38,15 @@ orElse (refused number place) b = refused number place
 unfoldable pub firstFault : (number : ℕ) (bad : ℕ → Bool) (n : ℕ) → Judgement
 firstFault number bad zero = passed
 firstFault number bad (suc n) = orElse (firstFault number bad n) (refuseIf (bad n) number n)
+
+-- none of the first i places is at fault
+abbrev pub NoneBad : (bad : ℕ → Bool) (i : ℕ) → Type 0
+NoneBad bad i = (j : ℕ) → j < i → bad j ≡ false
+
+pub record FirstBad (bad : ℕ → Bool) (n i : ℕ) : Type 0 where
+  pub within : i ≤ n
+  pub fault : i < n → bad i ≡ true
+  pub before : NoneBad bad i
 
 -- the one with the lower number; a where they are equal
 abbrev pub lower : Judgement → Judgement → Judgement

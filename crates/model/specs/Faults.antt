@@ -7,19 +7,21 @@
 --     rateCheck        6   one rate out of range
 --     rateCountCheck   6   a rate or row count outside 1 to rowsMax
 --     rateListCheck    6   a rate out of range or not rising, at the first such rate
+--     RatesWithin          a list of rates that is not refused
 --     bucketCheck      7   B or F of one bucket out of range
 --     roomCheck        8   a lent list has too little room from the given entry on
 --     recordingFaults, verdictFaults, scheduleFaults, leastFaults, tableFaults, lookupFaults, secondsFaults
 --                          what applies to each operation, in the order in which equal numbers come first
 -- The faults of parameter bits (9, 10, 11): specs/Params.antt. Laws: proofs/FaultsLaws.antt. Assumes nothing.
-use Prim.Native.Nat.{ℕ, zero, suc, _+_}
+use Prim.Native.Nat.{ℕ, zero, suc, _+_, _-_, _≤_, _<_}
 use mathlib.Core.Bool.{Bool, false, not, _||_}
 use mathlib.Core.List.{List, [], _∷_, _++_}
 use lib.Dec.{leb, ltb, eqb}
 use lib.ListN.{length, getD}
 use Rattle.rules.specs.Limits.{picturesMax, sizeMax, spanMax, tsMax, nuMax, rateMax, rowsMax, bucketMax}
 use Rattle.rules.specs.Refusals as refusal
-use Rattle.model.specs.Recording.{Recording, pictures, size, tick, distance}
+use Rattle.model.specs.Numbers.{Rising}
+use Rattle.model.specs.Recording.{Recording, pictures}
 use Rattle.model.specs.Arrival.{Bucket}
 use Rattle.model.specs.Lookup.{Table}
 use Rattle.model.specs.Answers.{Judgement, refuseIf, firstFault}
@@ -40,16 +42,19 @@ badClock ts nu = outside 1 tsMax ts || outside 1 nuMax nu
 abbrev pub clockCheck : (ts nu : ℕ) → Judgement
 clockCheck ts nu = refuseIf (badClock ts nu) refusal.clock 0
 
+abbrev pub badSize : (sizes : List ℕ) → ℕ → Bool
+badSize sizes i = outside 1 sizeMax (getD sizes i 0)
+
 abbrev pub sizeCheck : Recording → Judgement
-sizeCheck k = firstFault refusal.size (λ i. outside 1 sizeMax (size k i)) (pictures k)
+sizeCheck k = firstFault refusal.size (badSize (k .sizes)) (pictures k)
 
 -- "a tick not above the one before, or over 65,536 from the first"
-abbrev pub badTick : Recording → ℕ → Bool
-badTick k zero = false
-badTick k (suc i) = leb (tick k (suc i)) (tick k i) || ltb spanMax (distance k 0 (suc i))
+abbrev pub badTick : (ticks : List ℕ) → ℕ → Bool
+badTick ticks zero = false
+badTick ticks (suc i) = leb (getD ticks (suc i) 0) (getD ticks i 0) || ltb spanMax (getD ticks (suc i) 0 - getD ticks 0 0)
 
 abbrev pub tickCheck : Recording → Judgement
-tickCheck k = firstFault refusal.tick (badTick k) (pictures k)
+tickCheck k = firstFault refusal.tick (badTick (k .ticks)) (pictures k)
 
 abbrev pub badRate : ℕ → Bool
 badRate rate = outside 1 rateMax rate
@@ -60,13 +65,23 @@ rateCheck rate = refuseIf (badRate rate) refusal.rate 0
 abbrev pub rateCountCheck : (rates : List ℕ) → Judgement
 rateCountCheck rates = refuseIf (outside 1 rowsMax (length rates)) refusal.rate 0
 
+-- the entry before entry i; 0 before the first
+abbrev pub entryBefore : (l : List ℕ) → ℕ → ℕ
+entryBefore l zero = 0
+entryBefore l (suc i) = getD l i 0
+
 -- "a rate out of range or not rising"
 abbrev pub badRateAt : (rates : List ℕ) → ℕ → Bool
-badRateAt rates zero = badRate (getD rates 0 0)
-badRateAt rates (suc i) = badRate (getD rates (suc i) 0) || leb (getD rates (suc i) 0) (getD rates i 0)
+badRateAt rates i = badRate (getD rates i 0) || leb (getD rates i 0) (entryBefore rates i)
 
 abbrev pub rateListCheck : (rates : List ℕ) → Judgement
 rateListCheck rates = firstFault refusal.rate (badRateAt rates) (length rates)
+
+-- rates that are all in range and rise: a list that is not refused
+pub record RatesWithin (rates : List ℕ) : Type 0 where
+  pub some : (i : ℕ) → i < length rates → 1 ≤ getD rates i 0
+  pub small : (i : ℕ) → i < length rates → getD rates i 0 ≤ rateMax
+  pub rising : Rising rates (length rates)
 
 -- "buffer B from 1 to 68,719,476,736 bits (2^36), start fullness F from 1 to B"
 abbrev pub badBucket : (b f : ℕ) → Bool

@@ -2,6 +2,7 @@ pub mod Numbers
 pub mod Recording
 pub mod Arrival
 pub mod Least
+pub mod Meter
 pub mod Lookup
 pub mod Answers
 pub mod Faults
