@@ -2,6 +2,7 @@
 --     refuseIf-passed      a test refuses exactly when it is true
 --     orElse-passed        of two judgements both pass, or the first refusal is given
 --     test-false, test-true, skip, here    how the first refusal is found, judgement by judgement
+--     answer-given, answer-refused         an operation's answer, from its judgement
 --     first-passed         several judgements pass exactly when each does
 --     firstFault-passed    a list passes exactly when no place is at fault
 --     noneBad-zero, noneBad-more, firstBad-here, firstBad-none    how a search finds the first place at fault
@@ -24,7 +25,7 @@ use lib.Dec.{T, leb, ltb, lit≤}
 use lib.ListN.{getD}
 use borrow.Author.Count.{below-more}
 use borrow.Author.Tests.{ltb-true, ltb-false, le-ltb}
-use Rattle.model.specs.Answers.{given, refused, Judgement, passed, refuseIf, orElse, firstFault, NoneBad, FirstBad, lower, lowest, first}
+use Rattle.model.specs.Answers.{given, refused, Judgement, passed, refuseIf, orElse, firstFault, NoneBad, FirstBad, lower, lowest, first, answerWith}
 
 pub refused-not-passed : {n i : ℕ} → _≡_ {A = Judgement} (refused n i) passed → ⊥
 refused-not-passed e = let z : _≡_ {A = ℕ} 0 1 = cc in omega arith
@@ -53,6 +54,13 @@ skip js e = rw e
 pub here : {j : Judgement} {n i : ℕ} (js : List Judgement) → j ≡ refused n i → first (j ∷ js) ≡ refused n i
 unfolding first
 here js e = rw e
+
+-- an operation's answer, from its judgement
+pub answer-given : {A : Type 0} {j : Judgement} (x : A) → j ≡ passed → answerWith j x ≡ given x
+answer-given x e = rw e
+
+pub answer-refused : {A : Type 0} {j : Judgement} {n i : ℕ} (x : A) → j ≡ refused n i → answerWith j x ≡ refused n i
+answer-refused x e = rw e
 
 -- each of them passes
 abbrev pub AllPassed : List Judgement → Type 0

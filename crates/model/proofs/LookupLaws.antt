@@ -1,22 +1,26 @@
 -- The lookup's four cases are document 01's. Definitions: specs/Lookup.antt.
 --     blend-above        an interpolated figure is at least the exact one
 --     blend-lt           and exceeds it by less than 1
+--     rowsUpTo-last      what the last row at or below a rate is
 --     rowsUpTo-row       the last row at or below a rate is the one with no such row after it
+--     figureAt-same      a figure goes by no other list of the table
+--     figureAt-row       the figure goes by that row
 --     figureAt-below     below the first row the figure grows
 --     figureAt-on        on a row it is that row's
 --     figureAt-between   between two rows it is interpolated and rounded up
 --     figureAt-above     above the last row of a table of any length it is the last row's
 -- Assumes nothing.
 use Prim.Native.Nat.{ℕ, zero, suc, _+_, _-_, _*_, _≤_, _<_, zero-le}
-use native.Mathlib.Nat.{le-of-lt, lt-suc-self, lt-of-lt-of-le, le-step, not-suc-le-zero, suc-le-suc-iff, eq-or-lt-of-le, ne-of-lt}
+use native.Mathlib.Nat.{le-refl, lt-of-not-le, suc-ne-zero, suc-inj, le-of-lt, lt-suc-self, lt-of-lt-of-le, le-step, not-suc-le-zero, suc-le-suc-iff, eq-or-lt-of-le, ne-of-lt}
+use native.Mathlib.Decide.{decLe}
 use native.Mathlib.Omega.{arith}
-use mathlib.Core.Path.{_≡_, refl, ap, _∙_}
+use mathlib.Core.Path.{_≡_, refl, sym, ap, _∙_, subst}
 use mathlib.Core.Logic.{⊎-elim}
 use mathlib.Core.List.{List}
 use lib.ListN.{length, getD}
 use borrow.Author.Tests.{le-leb, lt-leb, eq-eqb, ne-eqb}
 use Rattle.model.specs.Numbers.{Rising}
-use Rattle.model.specs.Lookup.{Table, rowsUpTo, spotAfter, growth, blend, figureOn, figureAt}
+use Rattle.model.specs.Lookup.{Table, table, Spot, below, on, between, above, spotOf, rowsUpTo, spotAfter, growth, blend, figureOn, figureAt}
 use Rattle.model.proofs.NumbersLaws.{roundUp-above, roundUp-lt, rising-lt, rising-le}
 
 module _ (ra rb xa xb r : ℕ) (apart : ra < rb) where
@@ -39,9 +43,46 @@ rowsUpTo-row rates r (suc n) i h lo hi =
     (λ g. rw (lt-leb _ _ (hi n g (lt-suc-self n)), rowsUpTo-row rates r n i g lo (λ j a b. hi j a (le-step b))))
     (eq-or-lt-of-le (suc-le-suc-iff .0 h))
 
+-- what the last row at or below a rate is, and what the rows after it are not
+pub record LastRow (rates : List ℕ) (r n row : ℕ) : Type 0 where
+  pub within : row ≤ n
+  pub low : (a : ℕ) → row ≡ suc a → getD rates a 0 ≤ r
+  pub high : (j : ℕ) → row ≤ j → j < n → r < getD rates j 0
+
+pub rowsUpTo-last : (rates : List ℕ) (r n : ℕ) → LastRow rates r n (rowsUpTo rates r n)
+unfolding rowsUpTo
+rowsUpTo-last rates r zero = record { within = zero-le; low = λ a e. absurd (suc-ne-zero a (sym e)); high = λ j h g. absurd (not-suc-le-zero g) }
+rowsUpTo-last rates r (suc n) =
+    elim (decLe (getD rates n 0) r) [
+      | yes h ↦
+          rw (le-leb _ _ h)
+          (record { within = le-refl (suc n); low = λ a e. subst (λ m. getD rates m 0 ≤ r) (suc-inj e) h; high = λ j a b. absurd (omega arith) })
+      | no h ↦
+          let last = rowsUpTo-last rates r n in
+          let over = lt-of-not-le h in
+          rw (lt-leb _ _ over)
+          (record {
+            within = le-step (last .within);
+            low = last .low;
+            high = λ j a b. ⊎-elim (λ e. rw e over) (λ g. last .high j a g) (eq-or-lt-of-le (suc-le-suc-iff .0 b));
+          })
+    ]
+
+-- a figure goes by the rates, the clock and the span, and not by the other lists of the table
+figureOn-same : (rates buffers fulls ys zs xs : List ℕ) (ts nu ticks r : ℕ) (at : Spot)
+    → figureOn (table rates ys zs ts nu ticks) xs r at ≡ figureOn (table rates buffers fulls ts nu ticks) xs r at
+figureOn-same rates buffers fulls ys zs xs ts nu ticks r below = refl
+figureOn-same rates buffers fulls ys zs xs ts nu ticks r (on i) = refl
+figureOn-same rates buffers fulls ys zs xs ts nu ticks r (between i) = refl
+figureOn-same rates buffers fulls ys zs xs ts nu ticks r above = refl
+
+pub figureAt-same : (rates buffers fulls ys zs xs : List ℕ) (ts nu ticks r : ℕ)
+    → figureAt (table rates ys zs ts nu ticks) xs r ≡ figureAt (table rates buffers fulls ts nu ticks) xs r
+figureAt-same rates buffers fulls ys zs xs ts nu ticks r = figureOn-same rates buffers fulls ys zs xs ts nu ticks r (spotOf rates r)
+
 module _ (w : Table) (xs : List ℕ) (r : ℕ) where
   -- the figure, from the last row at or below r
-  figureAt-row : (n : ℕ) → rowsUpTo (w .rates) r (length (w .rates)) ≡ n → figureAt w xs r ≡ figureOn w xs r (spotAfter (w .rates) r n)
+  pub figureAt-row : (n : ℕ) → rowsUpTo (w .rates) r (length (w .rates)) ≡ n → figureAt w xs r ≡ figureOn w xs r (spotAfter (w .rates) r n)
   figureAt-row n e = ap (λ n. figureOn w xs r (spotAfter (w .rates) r n)) e
 
   pub figureAt-above : 0 < length (w .rates) → getD (w .rates) (length (w .rates) - 1) 0 < r → figureAt w xs r ≡ getD xs (length (w .rates) - 1) 0

@@ -128,10 +128,12 @@ tableLengthsCheck w =
 abbrev pub tableClockCheck : Table → Judgement
 tableClockCheck w = refuseIf (badClock (w .ts) (w .nu) || ltb spanMax (w .ticks)) refusal.clock 0
 
+abbrev pub badRow : (buffers fulls : List ℕ) → ℕ → Bool
+badRow buffers fulls i = badBucket (getD buffers i 0) (getD fulls i 0)
+
 -- B or F of a row out of range, at the first such row
 abbrev pub rowsCheck : Table → Judgement
-rowsCheck w =
-    firstFault refusal.bucket (λ i. badBucket (getD (w .buffers) i 0) (getD (w .fulls) i 0)) (length (w .rates))
+rowsCheck w = firstFault refusal.bucket (badRow (w .buffers) (w .fulls)) (length (w .rates))
 
 -- "Within 6, a count comes first, then the list, then a single rate."
 abbrev pub lookupFaults : Table → (r : ℕ) → List Judgement
