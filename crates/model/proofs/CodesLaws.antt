@@ -2,7 +2,12 @@
 --     stands-append       two lists of bits stand one after the other exactly when each stands at its place
 --     unsigned-lt         w bits say a number below 2^w
 --     unsignedBits-length, unsignedBits-back, unsigned-back    w bits written and read, each way
---     zerosOf-range       2^z <= v + 1 < 2^(z + 1) for the z zeros of v's code, and z < 32
+--     unsignedBits-more   the first i + 1 of w bits are the first i and one bit more
+--     zerosOf-range, zerosOf-one    2^z <= v + 1 < 2^(z + 1) for the z zeros of v's code, and z < 32; for no other z
+--     ue-parts            a code is a 0 in z bits, and then v + 1 in z + 1 bits
+--     ue-length           it has z + 1 + z bits
+--     Zeros, zeros-one    z zeros and no more stand at the start of n bits: that is the count of them
+--     gotWithin-in, gotWithin-past    a value is got up to the end of the bits, and not past it
 --     code-back           a value written is read again, and the next position is behind it
 --     code-sound          a value read stands there as written, fits its code, and the next position is behind it
 --     ue-prefix           no ue(v) code begins another: codes followed by anything are equal only for equal values
@@ -17,13 +22,13 @@ use native.Mathlib.Omega.{arith}
 use mathlib.Core.Path.{_≡_, refl, sym, ap, ap₂, _∙_}
 use mathlib.Core.Logic.{_↔_, ⊎-elim, _≢_}
 use mathlib.Core.List.{List, [], _∷_, _++_}
-use lib.ListN.{length, getD, replicate, length-append, length-replicate, getD-replicate, List·getD-append}
+use lib.ListN.{length, getD, replicate, length-append, length-replicate, getD-replicate, replicate-append-replicate, List·getD-append}
 use lib.Seq.{getD-append-add, ext-getD}
-use lib.Pow.{pow-pos, pow-mono}
+use lib.Pow.{pow-pos, pow-mono, shr-shr}
 use borrow.Author.Tests.{le-leb, lt-leb, eq-eqb, ne-eqb}
 use Rattle.rules.specs.Limits.{valueMax, zerosMax}
 use Rattle.model.proofs.NumbersLaws.{Each, append-each}
-use Rattle.model.specs.Codes.{Bits, Code, u, ue, got, unsigned, oneMore, zerosFrom, gotWithin, readUe, readCode, unsignedBits, zerosOf, codeBits, CodeFits, Stands}
+use Rattle.model.specs.Codes.{Bits, Code, u, ue, got, ended, unsigned, oneMore, zerosFrom, gotWithin, readUe, readCode, unsignedBits, zerosOf, codeBits, CodeFits, Stands}
 
 -- every bit of x is 0 or 1
 abbrev pub Binary : Bits → Type 0
@@ -93,6 +98,29 @@ unsigned-back x p (suc w) i hb h =
     (append-cons-each (λ j a. a ≡ x .bit (p + j)) (unsignedBits w v) bit [] (λ j g. unsigned-back x p w j hb (rw len at g)) (rw len) (omega arith) i
     (simp (length-append, len, add-one) h))
 
+-- one bit more of the w bits of v
+pub unsignedBits-more : (w v i : ℕ) → i < w → unsignedBits (i + 1) (v / 2 ^ (w - (i + 1))) ≡ unsignedBits i (v / 2 ^ (w - i)) ++ (v / 2 ^ (w - 1 - i) % 2 ∷ [])
+unfolding unsignedBits
+unsignedBits-more w v i h =
+    let d = w - 1 - i in
+    let this : w - (i + 1) ≡ d = omega arith in
+    let before : w - i ≡ d + 1 = omega arith in
+    rw (this, before, ← shr-shr v d 1, add-one)
+
+-- 0 in w bits, and a number with its highest bit in the place above them
+unsignedBits-zero : (w : ℕ) → unsignedBits w 0 ≡ replicate w 0
+unfolding unsignedBits
+unsignedBits-zero zero = refl
+unsignedBits-zero (suc w) = rw (unsignedBits-zero w, replicate-append-replicate w 1, add-one)
+
+unsignedBits-one : (w m : ℕ) → m < 2 ^ w → unsignedBits (suc w) (2 ^ w + m) ≡ 1 ∷ unsignedBits w m
+unfolding unsignedBits
+unsignedBits-one zero m h = let e : m ≡ 0 = omega arith in rw e
+unsignedBits-one (suc w) m h =
+    let half : (2 ^ suc w + m) / 2 ≡ 2 ^ w + m / 2 = omega arith in
+    let odd : (2 ^ suc w + m) % 2 ≡ m % 2 = omega arith in
+    rw (half, odd, unsignedBits-one w (m / 2) (omega arith))
+
 -- powers of two on the two sides of a number
 exponent-lt : {a b n : ℕ} → 2 ^ a ≤ n → n < 2 ^ b → a < b
 exponent-lt {a} {b} h g = lt-of-not-le (λ l. omega (arith, pow-mono l))
@@ -111,11 +139,23 @@ zerosOf-range v h =
     let (least, most) = zerosOf-within v zerosMax (omega arith) in
     (least, most, exponent-lt {b = zerosMax} least (omega arith))
 
+-- no other z is in that range
+pub zerosOf-one : (v z : ℕ) → v ≤ valueMax → 2 ^ z ≤ v + 1 → v + 1 < 2 ^ suc z → zerosOf v zerosMax ≡ z
+zerosOf-one v z h low high =
+    let (least, most, _) = zerosOf-range v h in
+    omega (arith, exponent-lt least high, exponent-lt low most)
+
+pub ue-parts : (v : ℕ) → v ≤ valueMax → codeBits ue v ≡ unsignedBits (zerosOf v zerosMax) 0 ++ unsignedBits (zerosOf v zerosMax + 1) (v + 1)
+ue-parts v h =
+    let z = zerosOf v zerosMax in
+    let (least, most, _) = zerosOf-range v h in
+    ap₂ _++_ (sym (unsignedBits-zero z)) (sym (unsignedBits-one z (v + 1 - 2 ^ z) (omega arith)) ∙ ap₂ unsignedBits (sym (add-one z)) (omega arith))
+
 -- z zeros, and no more, stand at the start of n bits from p on
-record Zeros (x : Bits) (p n z : ℕ) : Type 0 where
-  run : (i : ℕ) → i < z → x .bit (p + i) ≡ 0
-  stop : z < n → x .bit (p + z) ≢ 0
-  upTo : z ≤ n
+pub record Zeros (x : Bits) (p n z : ℕ) : Type 0 where
+  pub run : (i : ℕ) → i < z → x .bit (p + i) ≡ 0
+  pub stop : z < n → x .bit (p + z) ≢ 0
+  pub upTo : z ≤ n
 
 oneMore-zeros : (x : Bits) (p n z : ℕ) → Zeros x p n z → Dec (z ≡ n) → Dec (x .bit (p + n) ≡ 0) → Zeros x p (suc n) (oneMore z n (x .bit (p + n)))
 oneMore-zeros x p n z zs (no e) d = rw (ne-eqb z n e) (record { run = zs .run; stop = λ _. zs .stop (omega arith); upTo = omega arith })
@@ -134,8 +174,14 @@ zerosFrom-zeros x p (suc n) = oneMore-zeros x p n (zerosFrom x p n) (zerosFrom-z
 zeros-le : {x : Bits} {p n y z : ℕ} → Zeros x p n y → Zeros x p n z → y ≤ z
 zeros-le {y = y} {z = z} a b = elim (decLe y z) [ yes h ↦ h | no h ↦ absurd (b .stop (omega arith) (a .run z (lt-of-not-le h))) ]
 
-ue-length : (z m : ℕ) → length (replicate z 0 ++ (1 ∷ unsignedBits z m)) ≡ z + 1 + z
-ue-length z m = simp (length-append, length-replicate, unsignedBits-length) (omega arith)
+pub zeros-one : {x : Bits} {p n z : ℕ} → Zeros x p n z → zerosFrom x p n ≡ z
+zeros-one {x} {p} {n} zs = le-antisymm (zeros-le (zerosFrom-zeros x p n) zs) (zeros-le zs (zerosFrom-zeros x p n))
+
+ueBits-length : (z m : ℕ) → length (replicate z 0 ++ (1 ∷ unsignedBits z m)) ≡ z + 1 + z
+ueBits-length z m = simp (length-append, length-replicate, unsignedBits-length) (omega arith)
+
+pub ue-length : (v : ℕ) → length (codeBits ue v) ≡ zerosOf v zerosMax + 1 + zerosOf v zerosMax
+ue-length v = ueBits-length (zerosOf v zerosMax) (v + 1 - 2 ^ zerosOf v zerosMax)
 
 pub code-back : (x : Bits) (c : Code) (p v : ℕ) → CodeFits c v → Stands x p (codeBits c v) → readCode x c p ≡ got v (p + length (codeBits c v))
 code-back x (u w) p v h st =
@@ -146,22 +192,27 @@ code-back x ue p v h st =
     let n = min zerosMax (x .end - p) in
     let m = v + 1 - 2 ^ z in
     let (least, most, few) = zerosOf-range v h in
-    let len = ue-length z m in
+    let len = ue-length v in
     let (zeros, behind) = stands-append x p (replicate z 0) (1 ∷ unsignedBits z m) .0 st in
     let after : Stands x (p + z) (1 ∷ unsignedBits z m) = rw length-replicate at behind in
     let rest = stands-append x (p + z) (1 ∷ []) (unsignedBits z m) .0 after .1 in
     let run : (i : ℕ) → i < z → x .bit (p + i) ≡ 0 = λ i g. zeros .same i (rw length-replicate g) ∙ getD-replicate z i 0 0 g in
     let one : x .bit (p + z) ≡ 1 = rw add-zero at (after .same 0 (zero-lt-suc _)) in
     let zs : Zeros x p n z = record { run = run; stop = omega arith; upTo = omega arith } in
-    let found : zerosFrom x p n ≡ z = le-antisymm (zeros-le (zerosFrom-zeros x p n) zs) (zeros-le zs (zerosFrom-zeros x p n)) in
-    rw (found, ne-eqb z zerosMax (omega arith), le-leb (p + z + 1 + z) (x .end) (omega arith), unsignedBits-back x (p + z + 1) z m (omega arith) rest)
+    rw (zeros-one zs, ne-eqb z zerosMax (omega arith), le-leb (p + z + 1 + z) (x .end) (omega arith), unsignedBits-back x (p + z + 1) z m (omega arith) rest)
     (ap₂ got (omega arith) (omega arith))
+
+pub gotWithin-in : (x : Bits) (p value next : ℕ) → next ≤ x .end → gotWithin x p value next ≡ got value next
+gotWithin-in x p value next h = rw (le-leb next (x .end) h)
+
+pub gotWithin-past : (x : Bits) (p value next : ℕ) → x .end < next → gotWithin x p value next ≡ ended p
+gotWithin-past x p value next h = rw (lt-leb next (x .end) h)
 
 gotWithin-sound : (x : Bits) (p value next v n : ℕ) → gotWithin x p value next ≡ got v n → (next ≤ x .end) × (v ≡ value) × (n ≡ next)
 gotWithin-sound x p value next v n e =
     elim (decLe next (x .end)) [
-      | yes h ↦ let q = rw (le-leb next (x .end) h) at e in (h, cc, cc)
-      | no h ↦ let q = rw (lt-leb next (x .end) (lt-of-not-le h)) at e in let c : _≡_ {A = ℕ} 0 1 = cc in absurd (omega arith)
+      | yes h ↦ let q = gotWithin-in x p value next h in (h, cc, cc)
+      | no h ↦ let q = gotWithin-past x p value next (lt-of-not-le h) in let c : _≡_ {A = ℕ} 0 1 = cc in absurd (omega arith)
     ]
 
 unsigned-each : (x : Bits) (p w : ℕ) → Binary x → Each (λ i a. x .bit (p + i) ≡ a) (unsignedBits w (unsigned x p w))
@@ -176,11 +227,10 @@ readUe-sound x p z v next hb zs e =
     let below = unsigned-lt x (p + z + 1) z hb in
     let is : v + 1 ≡ 2 ^ z + m = omega (arith, pow-pos z) in
     let small : v ≤ valueMax = omega (arith, pow-mono {i = suc z} {j = zerosMax} (omega arith)) in
-    let (least, most, _) = zerosOf-range v small in
-    let zeros : zerosOf v zerosMax ≡ z = omega (arith, exponent-lt {b = suc z} least (omega arith), exponent-lt {a = z} {n = v + 1} (omega arith) most) in
+    let zeros = zerosOf-one v z small (omega arith) (omega arith) in
     let left : v + 1 - 2 ^ z ≡ m = omega arith in
     let one : x .bit (p + z) ≡ 1 = omega (arith, hb (p + z)) in
-    let len = ue-length z m in
+    let len = ueBits-length z m in
     let same = ue-each (λ i a. x .bit (p + i) ≡ a) z (unsignedBits z m) (zs .run) one (λ i h. ap (x .bit) (omega arith) ∙ unsigned-each x (p + z + 1) z hb i h) in
     rw (zeros, left) (small, record { within = omega arith; same = same }, omega arith)
 

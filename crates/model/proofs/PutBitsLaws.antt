@@ -1,5 +1,7 @@
 -- What is true of bits stored in bytes. Definitions: specs/Codes.antt.
+--     withBit-lt        a number of w bits has w bits still when one of them is set (withBit)
 --     putBits-length    the bytes keep their number
+--     putBits-append    two lists of bits are stored one behind the other
 --     putBits-at        stored bits stand where they were stored
 --     putBits-keeps     every other bit stays
 --     putBits-byte      bytes stay bytes
@@ -11,7 +13,7 @@ use native.Mathlib.Decide.{decLe}
 use native.Mathlib.Omega.{arith}
 use mathlib.Core.Path.{_≡_, refl, ap, _∙_}
 use mathlib.Core.Logic.{_⊎_, inl, inr, ⊎-elim, _≢_}
-use mathlib.Core.List.{List, [], _∷_}
+use mathlib.Core.List.{List, [], _∷_, _++_}
 use lib.ListN.{length, getD, set, length-set}
 use lib.Seq.{getD-set-same}
 use lib.Pow.{pow-pos, pow-add, split, high, low, field, mod-mod-pow, shr-shr, shr-lt}
@@ -19,7 +21,7 @@ use Rattle.model.specs.Codes.{bitAt, bitsOf, Stands, putBit, putBits}
 use Rattle.model.proofs.CodesLaws.{AllBits}
 
 -- n with its bit k set to b, as putBit sets a byte's
-abbrev withBit : (n k b : ℕ) → ℕ
+abbrev pub withBit : (n k b : ℕ) → ℕ
 withBit n k b = n + b * 2 ^ k - n / 2 ^ k % 2 * 2 ^ k
 
 -- numbers that agree below bit k and above it agree at each bit but k
@@ -45,7 +47,7 @@ withBit-parts n k b hb =
     let from : withBit n k b / 2 ^ k ≡ q = rw e (high q k r) in
     (rw from (omega arith), rw e (low q k r), rw (← shr-shr (withBit n k b) k 1, ← shr-shr n k 1, from) (omega arith))
 
-withBit-lt : (n k b w : ℕ) → b < 2 → k < w → n < 2 ^ w → withBit n k b < 2 ^ w
+pub withBit-lt : (n k b w : ℕ) → b < 2 → k < w → n < 2 ^ w → withBit n k b < 2 ^ w
 withBit-lt n k b w hb h g =
     let d = w - (k + 1) in
     let e : w ≡ d + (k + 1) = omega arith in
@@ -78,6 +80,11 @@ pub putBits-length : (bytes : List ℕ) (p : ℕ) (bits : List ℕ) → length (
 unfolding putBits
 putBits-length bytes p [] = refl
 putBits-length bytes p (b ∷ bits) = putBits-length (putBit bytes p b) (suc p) bits ∙ simp length-set
+
+pub putBits-append : (bytes : List ℕ) (p : ℕ) (a b : List ℕ) → putBits bytes p (a ++ b) ≡ putBits (putBits bytes p a) (p + length a) b
+unfolding putBits
+putBits-append bytes p [] b = rw add-zero
+putBits-append bytes p (x ∷ a) b = rw (add-suc, ← suc-add) (putBits-append (putBit bytes p x) (suc p) a b)
 
 allBits-cons : (b : ℕ) (bits : List ℕ) → AllBits (b ∷ bits) → (b < 2) × AllBits bits
 allBits-cons b bits hb = (hb 0 (zero-lt-suc (length bits)), λ i h. hb (suc i) (suc-le-suc h))
