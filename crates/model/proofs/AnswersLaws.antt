@@ -4,6 +4,7 @@
 --     test-false, test-true, skip, here    how the first refusal is found, judgement by judgement
 --     answer-given, answer-refused         an operation's answer, from its judgement
 --     first-passed         several judgements pass exactly when each does
+--     first-append         of two lists the second is judged where the first passes
 --     firstFault-passed    a list passes exactly when no place is at fault
 --     noneBad-zero, noneBad-more, firstBad-here, firstBad-none    how a search finds the first place at fault
 --     firstFault-found     a refusal stands at the first place at fault
@@ -20,7 +21,7 @@ use native.Mathlib.Omega.{arith}
 use mathlib.Core.Path.{_≡_, refl, sym, ap, _∙_}
 use mathlib.Core.Bool.{Bool, true, false, cond, true≢false}
 use mathlib.Core.Logic.{_↔_, _⊎_, inl, inr, ⊎-elim}
-use mathlib.Core.List.{List, [], _∷_}
+use mathlib.Core.List.{List, [], _∷_, _++_}
 use lib.Dec.{T, leb, ltb, lit≤}
 use lib.ListN.{getD}
 use borrow.Author.Count.{below-more}
@@ -73,6 +74,15 @@ first-passed [] = (λ e. tt, λ h. refl)
 first-passed (j ∷ js) =
     let both = orElse-passed j (first js) in
     (λ e. (both .0 e .0, first-passed js .0 (both .0 e .1)), λ h. both .1 (h .0, first-passed js .1 (h .1)))
+
+orElse-assoc : (a b c : Judgement) → orElse (orElse a b) c ≡ orElse a (orElse b c)
+orElse-assoc (given a) b c = refl
+orElse-assoc (refused n i) b c = refl
+
+pub first-append : (js ks : List Judgement) → first (js ++ ks) ≡ orElse (first js) (first ks)
+unfolding first
+first-append [] ks = refl
+first-append (j ∷ js) ks = rw (first-append js ks, orElse-assoc j (first js) (first ks))
 
 pub firstFault-passed : (n : ℕ) (bad : ℕ → Bool) (m : ℕ) → (firstFault n bad m ≡ passed) ↔ ((i : ℕ) → i < m → bad i ≡ false)
 unfolding firstFault

@@ -6,6 +6,7 @@
 --     tableFaults-ascending, lookupFaults-ascending, secondsFaults-ascending
 --                              the checks of an operation stand in the order of their numbers, so that the lowest is the first
 --     judge-first              so a recording's refusal is the first
+--     faults-after             and after those of a recording further checks are judged where the recording passes
 --     judgeOutcome-within      a recording is not refused exactly when it keeps every limit
 --     rateList-within          a list of rates is not refused exactly when all are in range and rise
 --     within-recorded          such a recording has all that the theorems ask
@@ -25,10 +26,10 @@ use Rattle.rules.specs.Refusals as refusal
 use Rattle.model.specs.Recording.{Recording, Recorded, Within, pictures, size, tick, distance}
 use Rattle.model.specs.Arrival.{Bucket}
 use Rattle.model.specs.Lookup.{Table}
-use Rattle.model.specs.Answers.{Judgement, passed, first}
+use Rattle.model.specs.Answers.{Judgement, passed, orElse, lowest, first}
 use Rattle.model.specs.Faults.{outside, picturesCheck, lengthsCheck, clockCheck, badClock, sizeCheck, badSize, entryBefore, badTick, tickCheck, badRate, badRateAt, rateListCheck, RatesWithin, recordingFaults, verdictFaults, scheduleFaults, leastFaults, tableFaults, lookupFaults, secondsFaults}
 use Rattle.model.specs.Outcomes.{judgeOutcome}
-use Rattle.model.proofs.AnswersLaws.{refuseIf-passed, first-passed, firstFault-passed, Ascending, none, test, list, lowest-first}
+use Rattle.model.proofs.AnswersLaws.{refuseIf-passed, first-passed, first-append, firstFault-passed, Ascending, none, test, list, lowest-first}
 
 pub or-false : (a b : Bool) → (a || b ≡ false) ↔ ((a ≡ false) × (b ≡ false))
 or-false true b = (λ e. absurd (true≢false e), λ h. absurd (true≢false (h .0)))
@@ -84,9 +85,8 @@ lookupFaults-ascending w r =
     (test refusal.rate _ 0 tt
     (list refusal.bucket _ (length (w .rates)) tt none)))))
 
-pub secondsFaults-ascending : (u : Bucket) → Ascending refusal.rate (secondsFaults u)
-secondsFaults-ascending u =
-    test refusal.rate _ 0 tt (test refusal.bucket _ 0 tt none)
+pub secondsFaults-ascending : (u : Bucket) {js : List Judgement} → Ascending refusal.bucket js → Ascending refusal.rate (secondsFaults u ++ js)
+secondsFaults-ascending u h = test refusal.rate _ 0 tt (test refusal.bucket _ 0 tt h)
 
 -- the tests of a recording, and what each asks
 badTick-false : (k : Recording) (i : ℕ) → (badTick (k .ticks) (suc i) ≡ false) ↔ ((tick k i < tick k (suc i)) × (distance k 0 (suc i) ≤ spanMax))
@@ -168,6 +168,10 @@ module _ (k : Recording) where
               ),
             ),
       )
+
+pub faults-after : (k : Recording) (js : List Judgement) → Ascending refusal.tick js → lowest (recordingFaults k ++ js) ≡ orElse (judgeOutcome k) (first js)
+faults-after k js up =
+    lowest-first (recordingFaults-ascending k up) ∙ first-append (recordingFaults k) js ∙ rw (judge-first k)
 
 pub rateList-within : (rates : List ℕ) → (rateListCheck rates ≡ passed) ↔ RatesWithin rates
 rateList-within rates =

@@ -3,21 +3,29 @@
 --     needsBelow-level       the largest need of a span that ends at the last picture
 --     needsBelow-buffer      the largest need of any span so far
 --     needsBelow-fullness    the largest need of a span from picture 0 so far
+--     tickBefore-more        one picture on, the tick before is this picture's
+--     tickBefore-between     it is at least the first tick, and at most its own picture's
+--     needsBelow-more        and the needs are one step further
+--     needsBelow-covers      all bits so far cover every need
+--     needsBelow-limit       and within the limits a buffer of the largest size covers them
 --     needsBelow-least       after the last picture these are the needs of the least figures
 -- Assumes nothing.
-use Prim.Native.Nat.{ℕ, zero, suc, _+_, _-_, _*_, _≤_, _<_, max}
-use native.Mathlib.Nat.{le-refl, le-step, le-of-lt, le-antisymm, lt-suc-self, zero-lt-suc, suc-le-suc-iff, eq-or-lt-of-le, mul-zero, mul-add, sub-zero, zero-max}
+use Prim.Native.Nat.{ℕ, zero, suc, _+_, _-_, _*_, _≤_, _<_, max, zero-le}
+use native.Mathlib.Nat.{le-refl, le-trans, le-step, le-of-lt, le-antisymm, lt-suc-self, zero-lt-suc, suc-le-suc-iff, eq-or-lt-of-le, mul-zero, mul-add, mul-le-mul-left, sub-zero, zero-max}
 use native.Mathlib.Decide.{decLe}
+use native.Mathlib.Numerals.{add-one}
 use native.Mathlib.Omega.{arith}
 use mathlib.Core.Path.{_≡_, refl, sym, ap, _∙_}
 use mathlib.Core.Logic.{⊎-elim}
+use Rattle.rules.specs.Limits.{sizeMax, bucketMax}
+use Rattle.rules.proofs.Fits.{bits-fits}
 use Rattle.model.specs.Numbers.{largest}
-use Rattle.model.specs.Recording.{Recording, Recorded, pictures, size, distance}
+use Rattle.model.specs.Recording.{Recording, Recorded, Within, pictures, size, tick, distance}
 use Rattle.model.specs.Least.{bitsBefore, bitsFromTo, need, fullnessNeed, bufferNeed}
-use Rattle.model.specs.Meter.{needsBelow}
-use Rattle.model.proofs.NumbersLaws.{largest-above, largest-le, largest-attained}
+use Rattle.model.specs.Meter.{needsStep, tickBefore, needsBelow}
+use Rattle.model.proofs.NumbersLaws.{rising-le, largest-above, largest-le, largest-attained}
 use Rattle.model.proofs.RecordingLaws.{distance-split}
-use Rattle.model.proofs.LeastLaws.{bitsBefore-mono, need-self}
+use Rattle.model.proofs.LeastLaws.{bitsBefore-mono, bitsBefore-le, need-self}
 
 pub needsBelow-total : (k : Recording) (rate n : ℕ) → needsBelow k rate n .total ≡ k .ts * bitsBefore k n
 unfolding needsBelow bitsBefore
@@ -78,6 +86,33 @@ unfolding needsBelow largest
 needsBelow-buffer k rec rate zero h = refl
 needsBelow-buffer k rec rate (suc n) h =
     rw (needsBelow-buffer k rec rate n (le-of-lt h)) (ap (max (largest (λ j. largest (λ i. need k rate i j) (suc j)) n)) (needsBelow-level k rec rate n h))
+
+pub tickBefore-more : (k : Recording) (n : ℕ) → tickBefore k (n + 1) ≡ tick k n
+tickBefore-more k n = rw add-one
+
+pub tickBefore-between : {k : Recording} → Recorded k → (n : ℕ) → n < pictures k → (tick k 0 ≤ tickBefore k n) × (tickBefore k n ≤ tick k n)
+tickBefore-between rec zero h = (le-refl _, le-refl _)
+tickBefore-between {k} rec (suc n) h = (rising-le (k .ticks) (rec .rising) 0 n zero-le (le-of-lt h), le-of-lt (rec .rising n h))
+
+pub needsBelow-more : (k : Recording) (rate n : ℕ)
+    → needsBelow k rate (n + 1) ≡ needsStep (needsBelow k rate n) (k .ts * size k n) (rate * k .nu * (tick k n - tickBefore k n)) (rate * k .nu * distance k 0 n)
+unfolding needsBelow
+needsBelow-more k rate n = rw add-one
+
+pub needsBelow-covers : (k : Recording) (rate n : ℕ)
+    → (needsBelow k rate n .level ≤ needsBelow k rate n .total)
+    × (needsBelow k rate n .buffer ≤ needsBelow k rate n .total)
+    × (needsBelow k rate n .fullness ≤ needsBelow k rate n .total)
+unfolding needsBelow
+needsBelow-covers k rate zero = (le-refl 0, le-refl 0, le-refl 0)
+needsBelow-covers k rate (suc n) =
+    let (level, buffer, fullness) = needsBelow-covers k rate n in
+    (omega arith, omega arith, omega arith)
+
+pub needsBelow-limit : {k : Recording} → Within k → (rate : ℕ) {n : ℕ} → n ≤ pictures k → needsBelow k rate n .total ≤ k .ts * bucketMax
+needsBelow-limit {k} w rate {n} h =
+    rw (needsBelow-total k rate n)
+    (mul-le-mul-left (k .ts) (bits-fits {n = n} (le-trans h (w .few)) (bitsBefore-le k sizeMax n (λ i g. w .small i (le-trans g h))) .0))
 
 pub needsBelow-least : (k : Recording) → Recorded k → (rate : ℕ)
     → (needsBelow k rate (pictures k) .buffer ≡ bufferNeed k rate) × (needsBelow k rate (pictures k) .fullness ≡ fullnessNeed k rate)

@@ -16,6 +16,9 @@
 --     listOf-getD         a list is the list of its entries
 --     append-each         what is true of each entry of two lists is true of each entry of one behind the other
 --     written-length      a list written in part keeps its length
+--     written-more        one entry more is written behind those at a list's front
+--     written-part        a list of which the part from an entry on was written at its front is written from that entry on
+--     written-back        so is a list into which such a part has come back, as a lent part does
 -- Assumes nothing.
 use Prim.Native.Nat.{ℕ, zero, suc, _+_, _-_, _*_, _≤_, _<_, zero-le}
 use native.Mathlib.Nat.{add-zero, add-suc, zero-add, suc-add, le-trans, le-refl, le-of-lt, le-of-eq, lt-trans, lt-of-not-le, lt-suc-self, zero-lt-suc, not-suc-le-zero, suc-le-suc-iff, eq-or-lt-of-le, div-lt-iff-lt-mul, div-mul-le-self, mul-zero, zero-max, le-max-left, le-max-right, max-le, max-eq-left, max-eq-right}
@@ -25,8 +28,8 @@ use native.Mathlib.Omega.{arith}
 use mathlib.Core.Path.{_≡_, refl, sym, ap, _∙_}
 use mathlib.Core.Logic.{_↔_, ⊎-elim}
 use mathlib.Core.List.{List, [], _∷_, _++_, append-nil, append-assoc}
-use lib.ListN.{length, getD, length-append, length-take, length-drop, List·getD-append}
-use lib.Seq.{getD-at, ext-getD}
+use lib.ListN.{length, getD, take, drop, set, length-append, length-take, length-drop, drop-of-length-le, List·getD-append}
+use lib.Seq.{getD-at, ext-getD, take-all, drop-cons, drop-drop, set-append-seam}
 use lib.Dec.{lit<}
 use Rattle.model.specs.Numbers.{roundUp, largest, Rising, listOf, written}
 
@@ -122,3 +125,16 @@ append-each P (v ∷ a) b front back (suc i) h =
 
 pub written-length : (l : List ℕ) (at : ℕ) (xs : List ℕ) → at + length xs ≤ length l → length (written l at xs) ≡ length l
 written-length l at xs h = simp (length-append, length-take, length-drop) (omega arith)
+
+pub written-more : (l : List ℕ) (xs : List ℕ) (x : ℕ) → length xs < length l → set (written l 0 xs) (length xs) x ≡ written l 0 (xs ++ (x ∷ []))
+written-more l xs x h =
+    simp (zero-add, length-append, add-one, append-assoc) (rw (drop-cons l (length xs) 0 h) (set-append-seam xs (getD l (length xs) 0) (drop (suc (length xs)) l) x))
+
+pub written-part : (l : List ℕ) (at : ℕ) (xs : List ℕ) → at + length xs ≤ length l → take at l ++ written (drop at l) 0 xs ≡ written l at xs
+written-part l at xs h = rw (zero-add, drop-drop)
+
+pub written-back : (l : List ℕ) (at : ℕ) (xs ys : List ℕ) → at + length xs ≤ length l → ys ≡ written (take (length l - at) (drop at l)) 0 xs
+    → take at l ++ (ys ++ drop (length l - at) (drop at l)) ≡ written l at xs
+written-back l at xs ys h e =
+    let all : length (drop at l) ≤ length l - at = simp length-drop (le-refl (length l - at)) in
+    rw (e, take-all (length l - at) (drop at l) all, drop-of-length-le (drop at l) all, append-nil) (written-part l at xs h)

@@ -7,6 +7,7 @@ pub mod Lookup
 pub mod Answers
 pub mod Faults
 pub mod Outcomes
+pub mod Panel
 pub mod Demands
 pub mod Codes
 pub mod Fields
