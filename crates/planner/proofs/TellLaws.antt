@@ -1,0 +1,18 @@
+-- One law for every exported operation: its struct is its answer's, told by the variant that the operation answered.
+--     tell          from what the operation promises of its answer, and which variant that is
+--     tell-table    the same for a table, with its two lists
+-- Assumes nothing.
+use Prim.Native.Nat.{ℕ}
+use mathlib.Core.Path.{_≡_, sym, ap, _∙_}
+use mathlib.Core.List.{List}
+use Rattle.model.specs.Outcomes as outcomes
+use Rattle.least.specs.Outcome.{tabledOf, tabled}
+use Rattle.least.specs.declared.Tabled.{Tabled}
+use Rattle.planner.specs.Answers.{judgementAnswer, tableAnswer}
+
+pub tell : {A B C : Type 0} (f : B → C) (g : A → B) {v w : A} {o : B} → g v ≡ o → v ≡ w → f (g w) ≡ f o
+tell f g promised told = ap (λ v. f (g v)) (sym told) ∙ ap f promised
+
+pub tell-table : {v w : Tabled} {buffers fulls : List ℕ} {t : outcomes.Tabled} → tabled v buffers fulls ≡ t → v ≡ w
+    → tableAnswer (judgementAnswer (tabledOf w)) buffers fulls t
+tell-table promised told = (tell judgementAnswer tabledOf (ap (λ t. t .answer) promised) told, ap (λ t. t .buffers) promised, ap (λ t. t .fulls) promised)

@@ -1,0 +1,41 @@
+-- Each operation's answer as the plain struct that C and Rust see: kind 0 is a refusal, with its number and place, and all figures 0.
+--     judgementAnswer    passed
+--     bucketAnswer       buffer and start fullness
+--     secondsAnswer      wait and fill time
+--     readingAnswer      within or over the panel's limit
+--     tableAnswer        a table's answer, with its two lists afterwards
+-- Assumes nothing.
+use Prim.Native.Nat.{ℕ}
+use mathlib.Core.Path.{_≡_}
+use mathlib.Core.List.{List}
+use Rattle.model.specs.Arrival.{Bucket}
+use Rattle.model.specs.Answers.{Answer, given, refused, Judgement}
+use Rattle.model.specs.Outcomes.{Tabled}
+use Rattle.model.specs.Panel.{Seconds, Reading, within, over, zeroSeconds}
+use Rattle.planner.specs.declared.PlannerJudgement.{PlannerJudgement}
+use Rattle.planner.specs.declared.PlannerBucket.{PlannerBucket}
+use Rattle.planner.specs.declared.PlannerSeconds.{PlannerSeconds}
+use Rattle.planner.specs.declared.PlannerReading.{PlannerReading}
+
+abbrev pub judgementAnswer : Judgement → PlannerJudgement
+judgementAnswer (given a) = record { kind = 1; number = 0; place = 0 }
+judgementAnswer (refused n i) = record { kind = 0; number = n; place = i }
+
+abbrev pub bucketAnswer : Answer Bucket → PlannerBucket
+bucketAnswer (given u) = record { kind = 1; number = 0; place = 0; buffer = u .buffer; fullness = u .fullness }
+bucketAnswer (refused n i) = record { kind = 0; number = n; place = i; buffer = 0; fullness = 0 }
+
+abbrev pub secondsAnswer : Answer Seconds → PlannerSeconds
+secondsAnswer (given s) = record { kind = 1; number = 0; place = 0; wait = s .wait; fill = s .fill }
+secondsAnswer (refused n i) = record { kind = 0; number = n; place = i; wait = zeroSeconds; fill = zeroSeconds }
+
+abbrev pub readingOn : Reading → PlannerReading
+readingOn (within wait) = record { kind = 1; number = 0; place = 0; wait = wait; limit = zeroSeconds }
+readingOn (over wait limit) = record { kind = 2; number = 0; place = 0; wait = wait; limit = limit }
+
+abbrev pub readingAnswer : Answer Reading → PlannerReading
+readingAnswer (given r) = readingOn r
+readingAnswer (refused n i) = record { kind = 0; number = n; place = i; wait = zeroSeconds; limit = zeroSeconds }
+
+abbrev pub tableAnswer : PlannerJudgement → (buffers fulls : List ℕ) → Tabled → Type 0
+tableAnswer r buffers fulls t = (r ≡ judgementAnswer (t .answer)) × (buffers ≡ t .buffers) × (fulls ≡ t .fulls)

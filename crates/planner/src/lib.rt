@@ -1,0 +1,219 @@
+// The planner for C and Rust: every operation under a name with the prefix `planner_`, with a plain struct for its answer. A
+// refusal has kind 0, its number and its place, and all figures 0. Serves document 01, "What the planner covers".
+use least::Figures;
+use least::Tabled;
+use lookup::Found;
+use panel::Reading;
+use panel::Timed;
+use recording::Judgement;
+ghost use mathlib.Core.Path.{_≡_};
+ghost use Rattle.model.specs.Recording.{recording};
+ghost use Rattle.model.specs.Arrival.{bucket};
+ghost use Rattle.model.specs.Lookup.{table};
+ghost use Rattle.model.specs.Outcomes.{judgeOutcome, leastOutcome, tableOutcome, lookupOutcome};
+ghost use Rattle.model.specs.Panel.{secondsOutcome, panelOutcome};
+ghost use Rattle.planner.specs.Answers.{judgementAnswer, bucketAnswer, secondsAnswer, readingAnswer, tableAnswer};
+
+// Passed (kind 1), or refused.
+#[repr(C)]
+pub struct PlannerJudgement {
+    pub kind: u64,
+    pub number: u64,
+    pub place: u64,
+}
+
+// Buffer and start fullness (kind 1), or refused.
+#[repr(C)]
+pub struct PlannerBucket {
+    pub kind: u64,
+    pub number: u64,
+    pub place: u64,
+    pub buffer: u64,
+    pub fullness: u64,
+}
+
+// Wait and fill time (kind 1), or refused.
+#[repr(C)]
+pub struct PlannerSeconds {
+    pub kind: u64,
+    pub number: u64,
+    pub place: u64,
+    pub wait: f64,
+    pub fill: f64,
+}
+
+// Within the limit (kind 1, limit 0), over it (kind 2), or refused.
+#[repr(C)]
+pub struct PlannerReading {
+    pub kind: u64,
+    pub number: u64,
+    pub place: u64,
+    pub wait: f64,
+    pub limit: f64,
+}
+
+// Judges a recording and its clock.
+#[no_mangle]
+pub extern "C" fn planner_judge(sizes: &[u64], ticks: &[u64], ts: u64, nu: u64) -> PlannerJudgement
+    ensures { λ r. ⌜ r ≡ judgementAnswer (judgeOutcome (recording (now (sizes .entry)) (now (ticks .entry)) ts nu)) ⌝ }
+{
+    let judged = recording::judge(sizes, ticks, ts, nu);
+    match judged {
+        Judgement::Passed => PlannerJudgement {
+            kind: 1,
+            number: 0,
+            place: 0,
+        },
+        Judgement::Refused(number, place) => PlannerJudgement {
+            kind: 0,
+            number: number as u64,
+            place: place as u64,
+        },
+    }
+}
+
+// The least figures of a recording at one rate.
+#[no_mangle]
+pub extern "C" fn planner_least(
+    sizes: &[u64],
+    ticks: &[u64],
+    ts: u64,
+    nu: u64,
+    rate: u64,
+) -> PlannerBucket
+    ensures { λ r. ⌜ r ≡ bucketAnswer (leastOutcome (recording (now (sizes .entry)) (now (ticks .entry)) ts nu) rate) ⌝ }
+{
+    let figures = least::least(sizes, ticks, ts, nu, rate);
+    match figures {
+        Figures::Least(buffer, fullness) => PlannerBucket {
+            kind: 1,
+            number: 0,
+            place: 0,
+            buffer,
+            fullness,
+        },
+        Figures::Refused(number, place) => PlannerBucket {
+            kind: 0,
+            number: number as u64,
+            place: place as u64,
+            buffer: 0,
+            fullness: 0,
+        },
+    }
+}
+
+// Writes the least figures at every rate of a list to two lent lists from entry `at` on.
+#[no_mangle]
+pub extern "C" fn planner_table(
+    sizes: &[u64],
+    ticks: &[u64],
+    ts: u64,
+    nu: u64,
+    rates: &[u64],
+    at: usize,
+    buffers: &mut [u64],
+    fulls: &mut [u64],
+) -> PlannerJudgement
+    ensures { λ r. ⌜ tableAnswer r (now (buffers .exit)) (now (fulls .exit)) (tableOutcome (recording (now (sizes .entry)) (now (ticks .entry)) ts nu) (now (rates .entry)) at (now (buffers .entry)) (now (fulls .entry))) ⌝ }
+{
+    let tabled = least::table(sizes, ticks, ts, nu, rates, at, buffers, fulls);
+    match tabled {
+        Tabled::Written => PlannerJudgement {
+            kind: 1,
+            number: 0,
+            place: 0,
+        },
+        Tabled::Refused(number, place) => PlannerJudgement {
+            kind: 0,
+            number: number as u64,
+            place: place as u64,
+        },
+    }
+}
+
+// Buffer and start fullness for any rate, from a table that is handed in.
+#[no_mangle]
+pub extern "C" fn planner_look_up(
+    rates: &[u64],
+    buffers: &[u64],
+    fulls: &[u64],
+    ts: u64,
+    nu: u64,
+    span: u64,
+    rate: u64,
+) -> PlannerBucket
+    ensures { λ r. ⌜ r ≡ bucketAnswer (lookupOutcome (table (now (rates .entry)) (now (buffers .entry)) (now (fulls .entry)) ts nu span) rate) ⌝ }
+{
+    let found = lookup::look_up(rates, buffers, fulls, ts, nu, span, rate);
+    match found {
+        Found::Bucket(buffer, fullness) => PlannerBucket {
+            kind: 1,
+            number: 0,
+            place: 0,
+            buffer,
+            fullness,
+        },
+        Found::Refused(number, place) => PlannerBucket {
+            kind: 0,
+            number: number as u64,
+            place: place as u64,
+            buffer: 0,
+            fullness: 0,
+        },
+    }
+}
+
+// The wait and the fill time of a bucket at its rate, in seconds.
+#[no_mangle]
+pub extern "C" fn planner_seconds(rate: u64, buffer: u64, fullness: u64) -> PlannerSeconds
+    ensures { λ r. ⌜ r ≡ secondsAnswer (secondsOutcome (bucket rate buffer fullness)) ⌝ }
+{
+    let timed = panel::seconds_of(rate, buffer, fullness);
+    match timed {
+        Timed::Took(s) => PlannerSeconds {
+            kind: 1,
+            number: 0,
+            place: 0,
+            wait: s.wait,
+            fill: s.fill,
+        },
+        Timed::Refused(number, place) => PlannerSeconds {
+            kind: 0,
+            number: number as u64,
+            place: place as u64,
+            wait: 0.0,
+            fill: 0.0,
+        },
+    }
+}
+
+// The panel reading of a bucket against the driver's limit.
+#[no_mangle]
+pub extern "C" fn planner_panel(rate: u64, buffer: u64, fullness: u64, limit: f64) -> PlannerReading
+    ensures { λ r. ⌜ r ≡ readingAnswer (panelOutcome (bucket rate buffer fullness) limit) ⌝ }
+{
+    let reading = panel::panel(rate, buffer, fullness, limit);
+    match reading {
+        Reading::Within(wait) => PlannerReading {
+            kind: 1,
+            number: 0,
+            place: 0,
+            wait,
+            limit: 0.0,
+        },
+        Reading::Over(wait, limit) => PlannerReading {
+            kind: 2,
+            number: 0,
+            place: 0,
+            wait,
+            limit,
+        },
+        Reading::Refused(number, place) => PlannerReading {
+            kind: 0,
+            number: number as u64,
+            place: place as u64,
+            wait: 0.0,
+            limit: 0.0,
+        },
+    }
+}
