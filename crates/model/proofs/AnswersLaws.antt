@@ -12,6 +12,7 @@
 --     Numbered             a judgement that passes or refuses with a given number
 --     Ascending            judgements in the order of their numbers
 --     lowest-first         of such the lowest is the first
+--     lowest-append        and with more behind them it is found in the same way
 --     lowest-least         no judgement has a lower number than the refusal that is given
 --     lowest-one           and that is one of them
 -- Assumes nothing.
@@ -75,14 +76,11 @@ first-passed (j ∷ js) =
     let both = orElse-passed j (first js) in
     (λ e. (both .0 e .0, first-passed js .0 (both .0 e .1)), λ h. both .1 (h .0, first-passed js .1 (h .1)))
 
-orElse-assoc : (a b c : Judgement) → orElse (orElse a b) c ≡ orElse a (orElse b c)
-orElse-assoc (given a) b c = refl
-orElse-assoc (refused n i) b c = refl
-
 pub first-append : (js ks : List Judgement) → first (js ++ ks) ≡ orElse (first js) (first ks)
 unfolding first
 first-append [] ks = refl
-first-append (j ∷ js) ks = rw (first-append js ks, orElse-assoc j (first js) (first ks))
+first-append (given a ∷ js) ks = first-append js ks
+first-append (refused n i ∷ js) ks = refl
 
 pub firstFault-passed : (n : ℕ) (bad : ℕ → Bool) (m : ℕ) → (firstFault n bad m ≡ passed) ↔ ((i : ℕ) → i < m → bad i ≡ false)
 unfolding firstFault
@@ -175,6 +173,9 @@ unfolding lowest first
 lowest-first none = refl
 lowest-first (next m {j = given a} h g t) = lowest-first t
 lowest-first (next m {j = refused k i} {js = js} h g t) = rw (lowest-first t) (lower-first i (first js) g (first-atLeast t))
+
+pub lowest-append : {n : ℕ} (js ks : List Judgement) → Ascending n js → Ascending n (js ++ ks) → lowest (js ++ ks) ≡ orElse (lowest js) (first ks)
+lowest-append js ks up on = lowest-first on ∙ first-append js ks ∙ ap (λ j. orElse j (first ks)) (sym (lowest-first up))
 
 -- a judgement that refuses with a number of at most m
 abbrev AtMost : ℕ → Judgement → Type 0

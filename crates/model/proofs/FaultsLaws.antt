@@ -7,6 +7,9 @@
 --                              the checks of an operation stand in the order of their numbers, so that the lowest is the first
 --     judge-first              so a recording's refusal is the first
 --     faults-after             and after those of a recording further checks are judged where the recording passes
+--     verdictFaults-first      so a rate and a bucket are judged after the recording
+--     verdictFaults-after      and what follows is judged after all three
+--     verdictFaults-within     a recording, a rate and a bucket that are not refused keep the limits
 --     judgeOutcome-within      a recording is not refused exactly when it keeps every limit
 --     rateList-within          a list of rates is not refused exactly when all are in range and rise
 --     within-recorded          such a recording has all that the theorems ask
@@ -21,7 +24,7 @@ use mathlib.Core.List.{List, _++_}
 use lib.Dec.{leb, ltb}
 use lib.ListN.{length, getD}
 use borrow.Author.Tests.{ltb-false, le-ltb, leb-false, lt-leb, not-false, eqb-true, eq-eqb}
-use Rattle.rules.specs.Limits.{picturesMax, sizeMax, spanMax, tsMax, nuMax, rateMax}
+use Rattle.rules.specs.Limits.{picturesMax, sizeMax, spanMax, tsMax, nuMax, rateMax, bucketMax}
 use Rattle.rules.specs.Refusals as refusal
 use Rattle.model.specs.Recording.{Recording, Recorded, Within, pictures, size, tick, distance}
 use Rattle.model.specs.Arrival.{Bucket}
@@ -29,7 +32,7 @@ use Rattle.model.specs.Lookup.{Table}
 use Rattle.model.specs.Answers.{Judgement, passed, orElse, lowest, first}
 use Rattle.model.specs.Faults.{outside, picturesCheck, lengthsCheck, clockCheck, badClock, sizeCheck, badSize, entryBefore, badTick, tickCheck, badRate, badRateAt, rateListCheck, RatesWithin, recordingFaults, verdictFaults, scheduleFaults, leastFaults, tableFaults, lookupFaults, secondsFaults}
 use Rattle.model.specs.Outcomes.{judgeOutcome}
-use Rattle.model.proofs.AnswersLaws.{refuseIf-passed, first-passed, first-append, firstFault-passed, Ascending, none, test, list, lowest-first}
+use Rattle.model.proofs.AnswersLaws.{refuseIf-passed, first-passed, firstFault-passed, Ascending, none, test, list, lowest-first, orElse-passed, lowest-append}
 
 pub or-false : (a b : Bool) → (a || b ≡ false) ↔ ((a ≡ false) × (b ≡ false))
 or-false true b = (λ e. absurd (true≢false e), λ h. absurd (true≢false (h .0)))
@@ -170,8 +173,27 @@ module _ (k : Recording) where
       )
 
 pub faults-after : (k : Recording) (js : List Judgement) → Ascending refusal.tick js → lowest (recordingFaults k ++ js) ≡ orElse (judgeOutcome k) (first js)
-faults-after k js up =
-    lowest-first (recordingFaults-ascending k up) ∙ first-append (recordingFaults k) js ∙ rw (judge-first k)
+faults-after k js h = lowest-append (recordingFaults k) js (recordingFaults-ascending k none) (recordingFaults-ascending k h)
+
+pub verdictFaults-after : (k : Recording) (u : Bucket) (js : List Judgement) → Ascending refusal.bucket js
+    → lowest (verdictFaults k u ++ js) ≡ orElse (lowest (verdictFaults k u)) (first js)
+verdictFaults-after k u js h =
+    lowest-append (verdictFaults k u) js (verdictFaults-ascending k u none) (verdictFaults-ascending k u h)
+
+pub verdictFaults-first : (k : Recording) (u : Bucket) → lowest (verdictFaults k u) ≡ orElse (judgeOutcome k) (first (secondsFaults u))
+verdictFaults-first k u = faults-after k (secondsFaults u) (test refusal.rate _ 0 tt (test refusal.bucket _ 0 tt none))
+
+pub verdictFaults-within : (k : Recording) (u : Bucket) → lowest (verdictFaults k u) ≡ passed
+    → Within k × (u .rate ≤ rateMax) × (u .buffer ≤ bucketMax) × (u .fullness ≤ u .buffer)
+verdictFaults-within k u e =
+    let both = orElse-passed (judgeOutcome k) (first (secondsFaults u)) .0 (sym (verdictFaults-first k u) ∙ e) in
+    let each = first-passed (secondsFaults u) .0 (both .1) in
+    let figures = or-false _ _ .0 (refuseIf-passed _ refusal.bucket 0 .0 (each .1 .0)) in (
+      judgeOutcome-within k .0 (both .0),
+      outside-false 1 rateMax (u .rate) .0 (refuseIf-passed _ refusal.rate 0 .0 (each .0)) .1,
+      outside-false 1 bucketMax (u .buffer) .0 (figures .0) .1,
+      outside-false 1 (u .buffer) (u .fullness) .0 (figures .1) .1,
+    )
 
 pub rateList-within : (rates : List ℕ) → (rateListCheck rates ≡ passed) ↔ RatesWithin rates
 rateList-within rates =

@@ -17,6 +17,7 @@
 --     append-each         what is true of each entry of two lists is true of each entry of one behind the other
 --     written-length      a list written in part keeps its length
 --     written-more        one entry more is written behind those at a list's front
+--     written-listOf      so n stores, of f 0 to f (n - 1), write the list of these
 --     written-part        a list of which the part from an entry on was written at its front is written from that entry on
 --     written-back        so is a list into which such a part has come back, as a lent part does
 -- Assumes nothing.
@@ -129,6 +130,12 @@ written-length l at xs h = simp (length-append, length-take, length-drop) (omega
 pub written-more : (l : List ℕ) (xs : List ℕ) (x : ℕ) → length xs < length l → set (written l 0 xs) (length xs) x ≡ written l 0 (xs ++ (x ∷ []))
 written-more l xs x h =
     simp (zero-add, length-append, add-one, append-assoc) (rw (drop-cons l (length xs) 0 h) (set-append-seam xs (getD l (length xs) 0) (drop (suc (length xs)) l) x))
+
+pub written-listOf : (l : List ℕ) (f : ℕ → ℕ) (i : ℕ) → i < length l → set (written l 0 (listOf f i)) i (f i) ≡ written l 0 (listOf f (i + 1))
+unfolding listOf
+written-listOf l f i h =
+    let len : length (listOf f i) ≡ i = listOf-length f i in
+    rw (add-one, len) (rw len at (written-more l (listOf f i) (f i) (rw len h)))
 
 pub written-part : (l : List ℕ) (at : ℕ) (xs : List ℕ) → at + length xs ≤ length l → take at l ++ written (drop at l) 0 xs ≡ written l at xs
 written-part l at xs h = rw (zero-add, drop-drop)

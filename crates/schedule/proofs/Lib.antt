@@ -1,0 +1,2 @@
+mod WatchLaws
+mod OutcomeLaws
