@@ -1,5 +1,6 @@
 -- One law for every exported operation: its struct is its answer's, told by the variant that the operation answered.
 --     tell          from what the operation promises of its answer, and which variant that is
+--     tell-schedule the same for a schedule, with its two lists
 --     tell-table    the same for a table, with its two lists
 -- Assumes nothing.
 use Prim.Native.Nat.{ℕ}
@@ -8,10 +9,17 @@ use mathlib.Core.List.{List}
 use Rattle.model.specs.Outcomes as outcomes
 use Rattle.least.specs.Outcome.{tabledOf, tabled}
 use Rattle.least.specs.declared.Tabled.{Tabled}
-use Rattle.planner.specs.Answers.{judgementAnswer, tableAnswer}
+use Rattle.schedule.specs.Outcome.{answerOf, scheduled}
+use Rattle.schedule.specs.declared.Verdict.{Verdict}
+use Rattle.planner.specs.declared.PlannerVerdict.{PlannerVerdict}
+use Rattle.planner.specs.Answers.{judgementAnswer, verdictAnswer, scheduleAnswer, tableAnswer}
 
 pub tell : {A B C : Type 0} (f : B → C) (g : A → B) {v w : A} {o : B} → g v ≡ o → v ≡ w → f (g w) ≡ f o
 tell f g promised told = ap (λ v. f (g v)) (sym told) ∙ ap f promised
+
+pub tell-schedule : (v : Verdict) {r : PlannerVerdict} {starts ends : List ℕ} {t : outcomes.Scheduled} → scheduled v starts ends ≡ t
+    → r ≡ verdictAnswer (answerOf v) → scheduleAnswer r starts ends t
+tell-schedule v promised told = (told ∙ ap (λ t. verdictAnswer (t .answer)) promised, ap (λ t. t .starts) promised, ap (λ t. t .ends) promised)
 
 pub tell-table : {v w : Tabled} {buffers fulls : List ℕ} {t : outcomes.Tabled} → tabled v buffers fulls ≡ t → v ≡ w
     → tableAnswer (judgementAnswer (tabledOf w)) buffers fulls t

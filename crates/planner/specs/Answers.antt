@@ -1,5 +1,7 @@
 -- Each operation's answer as the plain struct that C and Rust see: kind 0 is a refusal, with its number and place, and all figures 0.
 --     judgementAnswer    passed
+--     verdictAnswer      holds, or late
+--     scheduleAnswer     a schedule's answer, with its two lists afterwards
 --     bucketAnswer       buffer and start fullness
 --     secondsAnswer      wait and fill time
 --     readingAnswer      within or over the panel's limit
@@ -8,11 +10,12 @@
 use Prim.Native.Nat.{ℕ}
 use mathlib.Core.Path.{_≡_}
 use mathlib.Core.List.{List}
-use Rattle.model.specs.Arrival.{Bucket}
+use Rattle.model.specs.Arrival.{Bucket, Verdict, holds, late}
 use Rattle.model.specs.Answers.{Answer, given, refused, Judgement}
-use Rattle.model.specs.Outcomes.{Tabled}
+use Rattle.model.specs.Outcomes.{Scheduled, Tabled}
 use Rattle.model.specs.Panel.{Seconds, Reading, within, over, zeroSeconds}
 use Rattle.planner.specs.declared.PlannerJudgement.{PlannerJudgement}
+use Rattle.planner.specs.declared.PlannerVerdict.{PlannerVerdict}
 use Rattle.planner.specs.declared.PlannerBucket.{PlannerBucket}
 use Rattle.planner.specs.declared.PlannerSeconds.{PlannerSeconds}
 use Rattle.planner.specs.declared.PlannerReading.{PlannerReading}
@@ -20,6 +23,17 @@ use Rattle.planner.specs.declared.PlannerReading.{PlannerReading}
 abbrev pub judgementAnswer : Judgement → PlannerJudgement
 judgementAnswer (given a) = record { kind = 1; number = 0; place = 0 }
 judgementAnswer (refused n i) = record { kind = 0; number = n; place = i }
+
+abbrev pub verdictOn : Verdict → PlannerVerdict
+verdictOn holds = record { kind = 1; number = 0; place = 0; picture = 0; units = 0 }
+verdictOn (late picture units) = record { kind = 2; number = 0; place = 0; picture = picture; units = units }
+
+abbrev pub verdictAnswer : Answer Verdict → PlannerVerdict
+verdictAnswer (given v) = verdictOn v
+verdictAnswer (refused n i) = record { kind = 0; number = n; place = i; picture = 0; units = 0 }
+
+abbrev pub scheduleAnswer : PlannerVerdict → (starts ends : List ℕ) → Scheduled → Type 0
+scheduleAnswer r starts ends t = (r ≡ verdictAnswer (t .answer)) × (starts ≡ t .starts) × (ends ≡ t .ends)
 
 abbrev pub bucketAnswer : Answer Bucket → PlannerBucket
 bucketAnswer (given u) = record { kind = 1; number = 0; place = 0; buffer = u .buffer; fullness = u .fullness }

@@ -6,13 +6,15 @@ use lookup::Found;
 use panel::Reading;
 use panel::Timed;
 use recording::Judgement;
+use schedule::Verdict;
 ghost use mathlib.Core.Path.{_≡_};
 ghost use Rattle.model.specs.Recording.{recording};
 ghost use Rattle.model.specs.Arrival.{bucket};
 ghost use Rattle.model.specs.Lookup.{table};
-ghost use Rattle.model.specs.Outcomes.{judgeOutcome, leastOutcome, tableOutcome, lookupOutcome};
+ghost use Rattle.model.specs.Outcomes.{judgeOutcome, verdictOutcome, scheduleOutcome, leastOutcome, tableOutcome, lookupOutcome};
 ghost use Rattle.model.specs.Panel.{secondsOutcome, panelOutcome};
-ghost use Rattle.planner.specs.Answers.{judgementAnswer, bucketAnswer, secondsAnswer, readingAnswer, tableAnswer};
+ghost use Rattle.schedule.specs.Outcome.{answerOf};
+ghost use Rattle.planner.specs.Answers.{judgementAnswer, verdictAnswer, scheduleAnswer, bucketAnswer, secondsAnswer, readingAnswer, tableAnswer};
 
 // Passed (kind 1), or refused.
 #[repr(C)]
@@ -20,6 +22,16 @@ pub struct PlannerJudgement {
     pub kind: u64,
     pub number: u64,
     pub place: u64,
+}
+
+// Holds (kind 1), or late (kind 2) with the first late picture and its units, or refused.
+#[repr(C)]
+pub struct PlannerVerdict {
+    pub kind: u64,
+    pub number: u64,
+    pub place: u64,
+    pub picture: u64,
+    pub units: u64,
 }
 
 // Buffer and start fullness (kind 1), or refused.
@@ -70,6 +82,82 @@ pub extern "C" fn planner_judge(sizes: &[u64], ticks: &[u64], ts: u64, nu: u64) 
             place: place as u64,
         },
     }
+}
+
+// A verdict as a struct.
+fn verdict_struct(verdict: Verdict) -> PlannerVerdict
+    ensures { λ r. ⌜ r ≡ verdictAnswer (answerOf verdict) ⌝ }
+{
+    match verdict {
+        Verdict::Holds => PlannerVerdict {
+            kind: 1,
+            number: 0,
+            place: 0,
+            picture: 0,
+            units: 0,
+        },
+        Verdict::Late(picture, units) => PlannerVerdict {
+            kind: 2,
+            number: 0,
+            place: 0,
+            picture: picture as u64,
+            units,
+        },
+        Verdict::Refused(number, place) => PlannerVerdict {
+            kind: 0,
+            number: number as u64,
+            place: place as u64,
+            picture: 0,
+            units: 0,
+        },
+    }
+}
+
+// The verdict of R, B and F.
+#[no_mangle]
+pub extern "C" fn planner_verdict(
+    sizes: &[u64],
+    ticks: &[u64],
+    ts: u64,
+    nu: u64,
+    rate: u64,
+    buffer: u64,
+    fullness: u64,
+) -> PlannerVerdict
+    ensures { λ r. ⌜ r ≡ verdictAnswer (verdictOutcome (recording (now (sizes .entry)) (now (ticks .entry)) ts nu) (bucket rate buffer fullness)) ⌝ }
+{
+    verdict_struct(schedule::bucket_verdict(sizes, ticks, ts, nu, rate, buffer, fullness))
+}
+
+// Writes the schedule to two lent lists from entry `at` on, late or not, and answers the verdict.
+#[no_mangle]
+pub extern "C" fn planner_schedule(
+    sizes: &[u64],
+    ticks: &[u64],
+    ts: u64,
+    nu: u64,
+    rate: u64,
+    buffer: u64,
+    fullness: u64,
+    at: usize,
+    starts: &mut [u64],
+    ends: &mut [u64],
+) -> PlannerVerdict
+    ensures { λ r. ⌜ scheduleAnswer r (now (starts .exit)) (now (ends .exit)) (scheduleOutcome (recording (now (sizes .entry)) (now (ticks .entry)) ts nu) (bucket rate buffer fullness) at (now (starts .entry)) (now (ends .entry))) ⌝ }
+{
+    let verdict = schedule::schedule(
+        sizes,
+        ticks,
+        ts,
+        nu,
+        rate,
+        buffer,
+        fullness,
+        at,
+        starts,
+        ends,
+    );
+    verdict_struct(verdict)
 }
 
 // The least figures of a recording at one rate.
