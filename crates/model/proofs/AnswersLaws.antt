@@ -2,7 +2,7 @@
 --     refuseIf-passed      a test refuses exactly when it is true
 --     orElse-passed        of two judgements both pass, or the first refusal is given
 --     test-false, test-true, skip, here    how the first refusal is found, judgement by judgement
---     answer-given, answer-refused         an operation's answer, from its judgement
+--     answer-given, answer-refused, answer-passed    an operation's answer, from its judgement and back
 --     first-passed         several judgements pass exactly when each does
 --     first-append         of two lists the second is judged where the first passes
 --     firstFault-passed    a list passes exactly when no place is at fault
@@ -63,6 +63,10 @@ answer-given x e = rw e
 
 pub answer-refused : {A : Type 0} {j : Judgement} {n i : ℕ} (x : A) → j ≡ refused n i → answerWith j x ≡ refused n i
 answer-refused x e = rw e
+
+pub answer-passed : {A : Type 0} (j : Judgement) (x y : A) → answerWith j x ≡ given y → (j ≡ passed) × (x ≡ y)
+answer-passed (given tt) x y e = (refl, cc)
+answer-passed (refused n i) x y e = let z : _≡_ {A = ℕ} 0 1 = cc in absurd (omega arith)
 
 -- each of them passes
 abbrev pub AllPassed : List Judgement → Type 0

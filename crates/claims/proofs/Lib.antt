@@ -1,0 +1,3 @@
+pub mod Unique
+pub mod Demand2
+pub mod Demand3
