@@ -1,4 +1,8 @@
 -- What is true of a list of fields read and written, and of the rows of an accepted record. Definitions: specs/Fields.antt, specs/Params.antt.
+--     keeps-parts      a value that is kept keeps its range and its rule
+--     judged-cons      values pass where the first is kept and those behind it pass
+--     count-passed     a record passes where its count of rows is in range and its values pass
+--     rowFields-length, rowValues-length    n rows have 3 x n fields, and as many values
 --     fields-back      values that pass, written, are read again, and the next position is behind them
 --     fields-sound     values read pass, stand there as written, and the next position is behind them
 --     params-rates     in an accepted record rates rise, over all pairs of rows
@@ -64,7 +68,7 @@ fieldsBits-all (f ∷ fs) [] i h = absurd (not-suc-le-zero h)
 fieldsBits-all (f ∷ fs) (v ∷ values) i h =
     append-each (λ i b. b < 2) (codeBits (f .code) v) (fieldsBits fs values) (codeBits-all (f .code) v) (fieldsBits-all fs values) i h
 
-keeps-parts : (f : Field) (earlier : List ℕ) (v : ℕ) → keeps f earlier v ≡ true
+pub keeps-parts : (f : Field) (earlier : List ℕ) (v : ℕ) → keeps f earlier v ≡ true
     → (v ≤ f .most) × (keepsRule (f .rule) (rowBefore earlier) v ≡ true)
 keeps-parts f earlier v e = let (range, rule) = and-eq-true-iff _ _ .0 e in (leb-true v (f .most) range, rule)
 
@@ -77,7 +81,7 @@ cond-true true not-y e = (refl, e)
 cond-true false not-y e = absurd (not-y e)
 
 -- values pass where the first is kept and those behind it pass
-judged-cons : (f : Field) (fs : List Field) (earlier : List ℕ) (v : ℕ) (values : List ℕ)
+pub judged-cons : (f : Field) (fs : List Field) (earlier : List ℕ) (v : ℕ) (values : List ℕ)
     → (fieldsJudged (f ∷ fs) earlier (v ∷ values) ≡ passed)
     ↔ ((keeps f earlier v ≡ true) × (fieldsJudged fs (earlier ++ (v ∷ [])) values ≡ passed))
 unfolding fieldsJudged
@@ -159,7 +163,7 @@ judged-append (f ∷ fs) gs earlier (v ∷ values) behind len ok =
     (judged-cons f fs earlier v values .1 (kept, front), rw append-assoc at back)
 
 -- what is judged behind the count of rows passes exactly when the count is in range and it passes itself
-count-passed : (n : ℕ) (j : Judgement)
+pub count-passed : (n : ℕ) (j : Judgement)
     → (orElse (refuseIf (outside 1 cpbCntMax n) refusal.field 0) j ≡ passed) ↔ ((1 ≤ n) × (n ≤ cpbCntMax) × (j ≡ passed))
 count-passed n j =
     let both = orElse-passed (refuseIf (outside 1 cpbCntMax n) refusal.field 0) j in
@@ -169,12 +173,12 @@ count-passed n j =
       λ h. both .1 (test .1 (range .1 (h .0, h .1)), h .2),
     )
 
-rowFields-length : (n : ℕ) → length (rowFields n) ≡ 3 * n
+pub rowFields-length : (n : ℕ) → length (rowFields n) ≡ 3 * n
 unfolding rowFields
 rowFields-length zero = refl
 rowFields-length (suc n) = rw length-append (omega (arith, rowFields-length n))
 
-rowValues-length : (p : Params) (n : ℕ) → length (rowValues p n) ≡ length (rowFields n)
+pub rowValues-length : (p : Params) (n : ℕ) → length (rowValues p n) ≡ length (rowFields n)
 unfolding rowFields rowValues
 rowValues-length p zero = refl
 rowValues-length p (suc n) = simp (length-append, rowValues-length p n)

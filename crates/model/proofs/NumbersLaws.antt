@@ -12,6 +12,7 @@
 --     rising-le           and no later one is lower
 --     listOf-length       a list of n numbers has n entries
 --     listOf-at           and f i at entry i
+--     listOf-ext          lists of the same numbers are the same
 --     listOf-append       a list of a + b numbers is one of a and then one of b
 --     listOf-getD         a list is the list of its entries
 --     append-each         what is true of each entry of two lists is true of each entry of one behind the other
@@ -22,11 +23,11 @@
 --     written-back        so is a list into which such a part has come back, as a lent part does
 -- Assumes nothing.
 use Prim.Native.Nat.{ℕ, zero, suc, _+_, _-_, _*_, _≤_, _<_, zero-le}
-use native.Mathlib.Nat.{add-zero, add-suc, zero-add, suc-add, le-trans, le-refl, le-of-lt, le-of-eq, lt-trans, lt-of-not-le, lt-suc-self, zero-lt-suc, not-suc-le-zero, suc-le-suc-iff, eq-or-lt-of-le, div-lt-iff-lt-mul, div-mul-le-self, mul-zero, zero-max, le-max-left, le-max-right, max-le, max-eq-left, max-eq-right}
+use native.Mathlib.Nat.{le-step, add-zero, add-suc, zero-add, suc-add, le-trans, le-refl, le-of-lt, le-of-eq, lt-trans, lt-of-not-le, lt-suc-self, zero-lt-suc, not-suc-le-zero, suc-le-suc-iff, eq-or-lt-of-le, div-lt-iff-lt-mul, div-mul-le-self, mul-zero, zero-max, le-max-left, le-max-right, max-le, max-eq-left, max-eq-right}
 use native.Mathlib.Decide.{decLe, le-ind}
 use native.Mathlib.Numerals.{add-one}
 use native.Mathlib.Omega.{arith}
-use mathlib.Core.Path.{_≡_, refl, sym, ap, _∙_}
+use mathlib.Core.Path.{_≡_, refl, sym, ap, ap₂, _∙_}
 use mathlib.Core.Logic.{_↔_, ⊎-elim}
 use mathlib.Core.List.{List, [], _∷_, _++_, append-nil, append-assoc}
 use lib.ListN.{length, getD, take, drop, set, length-append, length-take, length-drop, drop-of-length-le, List·getD-append}
@@ -103,6 +104,12 @@ listOf-at f (suc n) d {i} h =
     ⊎-elim (λ e. rw e (getD-at (listOf f n) (f n) [] d n len))
     (λ g. List·getD-append (listOf f n) (f n ∷ []) d i (omega arith) ∙ listOf-at f n d g)
     (eq-or-lt-of-le (suc-le-suc-iff .0 h))
+
+pub listOf-ext : {A : Type 0} (f g : ℕ → A) (n : ℕ) → ((i : ℕ) → i < n → f i ≡ g i) → listOf f n ≡ listOf g n
+unfolding listOf
+listOf-ext f g zero same = refl
+listOf-ext f g (suc n) same =
+    ap₂ (λ l a. l ++ (a ∷ [])) (listOf-ext f g n (λ i h. same i (le-step h))) (same n (lt-suc-self n))
 
 pub listOf-append : (f : ℕ → ℕ) (a b : ℕ) → listOf f (a + b) ≡ listOf f a ++ listOf (λ i. f (a + i)) b
 unfolding listOf

@@ -11,7 +11,7 @@
 --     writeOutcome        writing: the next position or a refusal, and the bytes afterwards
 --     rowRate, rowSize    rate and size of a row
 --     rowVerdictOutcome   the verdict of F and a row
--- Laws: proofs/ParamsLaws.antt. Assumes nothing.
+-- Laws: proofs/FieldsLaws.antt. Assumes nothing.
 use Prim.Native.Nat.{ℕ, zero, suc, _+_, _-_, _*_, _^_}
 use mathlib.Core.Bool.{cond, not}
 use mathlib.Core.List.{List, [], _∷_, _++_}

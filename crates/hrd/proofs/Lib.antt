@@ -1,0 +1,3 @@
+mod FieldAtLaws
+mod ReadLaws
+mod WriteLaws

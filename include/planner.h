@@ -1,0 +1,139 @@
+/* The leaky bucket planner for C: the eight operations of libplanner.a and their answers.
+ * Numbers of refusals, places and limits are those of docs/RULES.md.
+ *
+ * What the caller owes:
+ * - Every list is a pointer and its length in entries. The pointer is valid and aligned for that
+ *   many entries; for an empty list it is any non-null aligned pointer, with length 0.
+ * - A list that is written overlaps no other list of the call. Lists that are only read may be one
+ *   and the same.
+ * Nothing else is owed: any numbers get an answer.
+ *
+ * What the caller gets:
+ * - Every list stays the caller's. The planner keeps no pointer, allocates nothing and remembers
+ *   nothing from one call to the next.
+ * - A refusal has kind 0, its number and its place; all figures are 0 and the lists that the call
+ *   could have written are unchanged. Of several faults the lowest number is given.
+ * - Any other answer has number 0 and place 0; a figure that its kind does not name is 0.
+ */
+#ifndef PLANNER_H
+#define PLANNER_H
+
+#include <stddef.h>
+#include <stdint.h>
+
+#ifdef __cplusplus
+extern "C" {
+#endif
+
+/* Kind 1: passed, or the table is written. */
+typedef struct PlannerJudgement {
+    uint64_t kind;
+    uint64_t number;
+    uint64_t place;
+} PlannerJudgement;
+
+/* Kind 1: holds. Kind 2: late, with the first late picture (counted from 0) and how many units of
+ * 1/(R x TS) second late it is. */
+typedef struct PlannerVerdict {
+    uint64_t kind;
+    uint64_t number;
+    uint64_t place;
+    uint64_t picture;
+    uint64_t units;
+} PlannerVerdict;
+
+/* Kind 1: buffer and start fullness in bits. */
+typedef struct PlannerBucket {
+    uint64_t kind;
+    uint64_t number;
+    uint64_t place;
+    uint64_t buffer;
+    uint64_t fullness;
+} PlannerBucket;
+
+/* Kind 1: wait and fill time in seconds. */
+typedef struct PlannerSeconds {
+    uint64_t kind;
+    uint64_t number;
+    uint64_t place;
+    double wait;
+    double fill;
+} PlannerSeconds;
+
+/* Kind 1: within, with the wait in seconds. Kind 2: over, with wait and limit. */
+typedef struct PlannerReading {
+    uint64_t kind;
+    uint64_t number;
+    uint64_t place;
+    double wait;
+    double limit;
+} PlannerReading;
+
+/* The arguments that several operations share:
+ *   sizes     bits of each picture; the picture count is the length of this list
+ *   ticks     removal tick of each picture, strictly rising from any first value
+ *   ts, nu    time_scale and num_units_in_tick: a tick lasts nu/ts seconds
+ *   rate      bits per second
+ *   buffer    bits of the buffer
+ *   fullness  start fullness in bits, from 1 to buffer
+ *   at        first entry to write in both lent lists; each needs room from there on, and entries
+ *             before it and after the last one written stay untouched */
+
+/* Judges a recording and its clock.
+ * Refusals: 1 (picture count), 2 (lists of different length) and 3 (ts or nu) at 0; 4 (a size) and
+ * 5 (a tick) at the first such picture. */
+PlannerJudgement planner_judge(const uint64_t *sizes, size_t sizes_length, const uint64_t *ticks,
+                               size_t ticks_length, uint64_t ts, uint64_t nu);
+
+/* Says whether a bucket holds a recording at a rate. A late picture is an answer, no refusal.
+ * Refusals: 1 to 5 as planner_judge; 6 (rate) and 7 (buffer or fullness) at 0. */
+PlannerVerdict planner_verdict(const uint64_t *sizes, size_t sizes_length, const uint64_t *ticks,
+                               size_t ticks_length, uint64_t ts, uint64_t nu, uint64_t rate,
+                               uint64_t buffer, uint64_t fullness);
+
+/* Writes arrival start and arrival end of every picture, in units of 1/(R x TS) second, to two lent
+ * lists, whether a picture is late or not, and answers the verdict.
+ * Refusals: 1 to 7 as planner_verdict; 8 (too little room in one of the lists) at 0. */
+PlannerVerdict planner_schedule(const uint64_t *sizes, size_t sizes_length, const uint64_t *ticks,
+                                size_t ticks_length, uint64_t ts, uint64_t nu, uint64_t rate,
+                                uint64_t buffer, uint64_t fullness, size_t at, uint64_t *starts,
+                                size_t starts_length, uint64_t *ends, size_t ends_length);
+
+/* Gives the least buffer and the least start fullness of a recording at a rate.
+ * Refusals: 1 to 5 as planner_judge; 6 (rate) at 0. */
+PlannerBucket planner_least(const uint64_t *sizes, size_t sizes_length, const uint64_t *ticks,
+                            size_t ticks_length, uint64_t ts, uint64_t nu, uint64_t rate);
+
+/* Writes the least buffer and the least start fullness at every rate of a strictly rising list to
+ * two lent lists.
+ * Refusals: 1 to 5 as planner_judge; 6 at 0 for the number of rates, otherwise at the first rate
+ * out of range or not rising; 8 (too little room in one of the lists) at 0. */
+PlannerJudgement planner_table(const uint64_t *sizes, size_t sizes_length, const uint64_t *ticks,
+                               size_t ticks_length, uint64_t ts, uint64_t nu,
+                               const uint64_t *rates, size_t rates_length, size_t at,
+                               uint64_t *buffers, size_t buffers_length, uint64_t *fulls,
+                               size_t fulls_length);
+
+/* Gives buffer and start fullness for any rate from a table: rates strictly rising, and the buffer
+ * and start fullness of every row. span is the recording's last tick less its first. Below the
+ * first row the answer may be larger than any buffer that the other operations accept.
+ * Refusals: 2 (lists of different length) and 3 (ts, nu or span) at 0; 6 at 0 for the number of
+ * rows, at its row for a rate of the table, at 0 for the rate asked, in this order; 7 (buffer or
+ * fullness) at the first such row. */
+PlannerBucket planner_look_up(const uint64_t *rates, size_t rates_length, const uint64_t *buffers,
+                              size_t buffers_length, const uint64_t *fulls, size_t fulls_length,
+                              uint64_t ts, uint64_t nu, uint64_t span, uint64_t rate);
+
+/* Gives the wait, fullness/rate, and the fill time, buffer/rate, each rounded once.
+ * Refusals: 6 (rate) and 7 (buffer or fullness) at 0. */
+PlannerSeconds planner_seconds(uint64_t rate, uint64_t buffer, uint64_t fullness);
+
+/* Compares the wait with the driver's limit in seconds; a wait equal to the limit is within.
+ * Refusals: 6 and 7 as planner_seconds; 13 (the limit is no finite number above 0) at 0. */
+PlannerReading planner_panel(uint64_t rate, uint64_t buffer, uint64_t fullness, double limit);
+
+#ifdef __cplusplus
+}
+#endif
+
+#endif

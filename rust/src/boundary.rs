@@ -1,0 +1,127 @@
+//! The exported functions and their answers as C has them: the Rust side of include/planner.h.
+
+#[repr(C)]
+pub struct PlannerJudgement {
+    pub kind: u64,
+    pub number: u64,
+    pub place: u64,
+}
+
+#[repr(C)]
+pub struct PlannerVerdict {
+    pub kind: u64,
+    pub number: u64,
+    pub place: u64,
+    pub picture: u64,
+    pub units: u64,
+}
+
+#[repr(C)]
+pub struct PlannerBucket {
+    pub kind: u64,
+    pub number: u64,
+    pub place: u64,
+    pub buffer: u64,
+    pub fullness: u64,
+}
+
+#[repr(C)]
+pub struct PlannerSeconds {
+    pub kind: u64,
+    pub number: u64,
+    pub place: u64,
+    pub wait: f64,
+    pub fill: f64,
+}
+
+#[repr(C)]
+pub struct PlannerReading {
+    pub kind: u64,
+    pub number: u64,
+    pub place: u64,
+    pub wait: f64,
+    pub limit: f64,
+}
+
+extern "C" {
+    pub fn planner_judge(
+        sizes: *const u64,
+        sizes_length: usize,
+        ticks: *const u64,
+        ticks_length: usize,
+        ts: u64,
+        nu: u64,
+    ) -> PlannerJudgement;
+
+    pub fn planner_verdict(
+        sizes: *const u64,
+        sizes_length: usize,
+        ticks: *const u64,
+        ticks_length: usize,
+        ts: u64,
+        nu: u64,
+        rate: u64,
+        buffer: u64,
+        fullness: u64,
+    ) -> PlannerVerdict;
+
+    pub fn planner_schedule(
+        sizes: *const u64,
+        sizes_length: usize,
+        ticks: *const u64,
+        ticks_length: usize,
+        ts: u64,
+        nu: u64,
+        rate: u64,
+        buffer: u64,
+        fullness: u64,
+        at: usize,
+        starts: *mut u64,
+        starts_length: usize,
+        ends: *mut u64,
+        ends_length: usize,
+    ) -> PlannerVerdict;
+
+    pub fn planner_least(
+        sizes: *const u64,
+        sizes_length: usize,
+        ticks: *const u64,
+        ticks_length: usize,
+        ts: u64,
+        nu: u64,
+        rate: u64,
+    ) -> PlannerBucket;
+
+    pub fn planner_table(
+        sizes: *const u64,
+        sizes_length: usize,
+        ticks: *const u64,
+        ticks_length: usize,
+        ts: u64,
+        nu: u64,
+        rates: *const u64,
+        rates_length: usize,
+        at: usize,
+        buffers: *mut u64,
+        buffers_length: usize,
+        fulls: *mut u64,
+        fulls_length: usize,
+    ) -> PlannerJudgement;
+
+    pub fn planner_look_up(
+        rates: *const u64,
+        rates_length: usize,
+        buffers: *const u64,
+        buffers_length: usize,
+        fulls: *const u64,
+        fulls_length: usize,
+        ts: u64,
+        nu: u64,
+        span: u64,
+        rate: u64,
+    ) -> PlannerBucket;
+
+    pub fn planner_seconds(rate: u64, buffer: u64, fullness: u64) -> PlannerSeconds;
+
+    pub fn planner_panel(rate: u64, buffer: u64, fullness: u64, limit: f64) -> PlannerReading;
+}

@@ -1,0 +1,100 @@
+//! What the built library answers to a case.
+
+use crate::cases::{Asked, Case, Record, Rows};
+use crate::outcome::{Answer, Outcome};
+use planner::{
+    judge, least, look_up, panel, schedule, seconds, table, verdict, Bucket, Reading, Recording,
+    Refused, Seconds, Table, Verdict,
+};
+
+pub fn outcome(case: &Case) -> Outcome {
+    match case {
+        Case::Judge { rec } => settled(judge(&recording(rec)), |()| Answer::Passed).into(),
+        Case::Verdict { rec, asked } => {
+            let result = verdict(&recording(rec), asked.rate, bucket(asked));
+            settled(result, held).into()
+        }
+        Case::Schedule { rec, asked, lent } => lent.lend(|starts, ends| {
+            let (rec, bucket) = (recording(rec), bucket(asked));
+            let result = schedule(&rec, asked.rate, bucket, lent.at, starts, ends);
+            settled(result, held)
+        }),
+        Case::Least { rec, rate } => settled(least(&recording(rec), *rate), figures).into(),
+        Case::Table { rec, rates, lent } => lent.lend(|buffers, fulls| {
+            let result = table(&recording(rec), rates, lent.at, buffers, fulls);
+            settled(result, |()| Answer::Passed)
+        }),
+        Case::LookUp { rows, rate } => settled(look_up(&rows_of(rows), *rate), figures).into(),
+        Case::Seconds { asked } => settled(seconds(asked.rate, bucket(asked)), timed).into(),
+        Case::Panel { asked, limit } => {
+            settled(panel(asked.rate, bucket(asked), *limit), read).into()
+        }
+    }
+}
+
+fn recording(rec: &Record) -> Recording<'_> {
+    Recording {
+        sizes: &rec.sizes,
+        ticks: &rec.ticks,
+        ts: rec.ts,
+        nu: rec.nu,
+    }
+}
+
+fn bucket(asked: &Asked) -> Bucket {
+    Bucket {
+        buffer: asked.buffer,
+        fullness: asked.fullness,
+    }
+}
+
+fn rows_of(rows: &Rows) -> Table<'_> {
+    Table {
+        rates: &rows.rates,
+        buffers: &rows.buffers,
+        fulls: &rows.fulls,
+        ts: rows.ts,
+        nu: rows.nu,
+        span: rows.span,
+    }
+}
+
+fn settled<T>(result: Result<T, Refused>, answer: impl FnOnce(T) -> Answer) -> Answer {
+    match result {
+        Ok(value) => answer(value),
+        Err(Refused { number, place }) => Answer::Refused { number, place },
+    }
+}
+
+fn held(verdict: Verdict) -> Answer {
+    match verdict {
+        Verdict::Holds => Answer::Holds,
+        Verdict::Late { picture, units } => Answer::Late { picture, units },
+    }
+}
+
+fn figures(bucket: Bucket) -> Answer {
+    Answer::Bucket {
+        buffer: bucket.buffer,
+        fullness: bucket.fullness,
+    }
+}
+
+fn timed(seconds: Seconds) -> Answer {
+    Answer::Seconds {
+        wait: seconds.wait.to_bits(),
+        fill: seconds.fill.to_bits(),
+    }
+}
+
+fn read(reading: Reading) -> Answer {
+    match reading {
+        Reading::Within(wait) => Answer::Within {
+            wait: wait.to_bits(),
+        },
+        Reading::Over(wait, limit) => Answer::Over {
+            wait: wait.to_bits(),
+            limit: limit.to_bits(),
+        },
+    }
+}

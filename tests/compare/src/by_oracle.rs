@@ -1,0 +1,117 @@
+//! What the independent second program answers to a case.
+
+use crate::cases::{Asked, Case, Record};
+use crate::outcome::{Answer, Outcome};
+use oracle::least::{least, table, Least};
+use oracle::lookup::{look_up, Found};
+use oracle::panel::{panel, seconds, Reading, Seconds};
+use oracle::recording::{judge, Clock, Recording};
+use oracle::schedule::{schedule, verdict, Verdict};
+use oracle::Refused;
+
+pub fn outcome(case: &Case) -> Outcome {
+    match case {
+        Case::Judge { rec } => settled(judge(&recording(rec)), |()| Answer::Passed).into(),
+        Case::Verdict { rec, asked } => {
+            let Asked {
+                rate,
+                buffer,
+                fullness,
+            } = *asked;
+            let result = verdict(&recording(rec), rate, buffer, fullness);
+            settled(result, held).into()
+        }
+        Case::Schedule { rec, asked, lent } => lent.lend(|starts, ends| {
+            let Asked {
+                rate,
+                buffer,
+                fullness,
+            } = *asked;
+            let (rec, at) = (recording(rec), lent.at as u64);
+            let result = schedule(&rec, rate, buffer, fullness, at, starts, ends);
+            settled(result, held)
+        }),
+        Case::Least { rec, rate } => settled(least(&recording(rec), *rate), least_figures).into(),
+        Case::Table { rec, rates, lent } => lent.lend(|buffers, fulls| {
+            let result = table(&recording(rec), rates, lent.at as u64, buffers, fulls);
+            settled(result, |()| Answer::Passed)
+        }),
+        Case::LookUp { rows, rate } => {
+            let clock = Clock {
+                ts: rows.ts,
+                nu: rows.nu,
+            };
+            let (rates, buffers, fulls) = (&rows.rates, &rows.buffers, &rows.fulls);
+            let result = look_up(rates, buffers, fulls, clock, rows.span, *rate);
+            settled(result, found_figures).into()
+        }
+        Case::Seconds { asked } => {
+            settled(seconds(asked.rate, asked.buffer, asked.fullness), timed).into()
+        }
+        Case::Panel { asked, limit } => {
+            let result = panel(asked.rate, asked.buffer, asked.fullness, *limit);
+            settled(result, read).into()
+        }
+    }
+}
+
+pub(crate) fn recording(rec: &Record) -> Recording<'_> {
+    Recording {
+        sizes: &rec.sizes,
+        ticks: &rec.ticks,
+        clock: Clock {
+            ts: rec.ts,
+            nu: rec.nu,
+        },
+    }
+}
+
+fn settled<T>(result: Result<T, Refused>, answer: impl FnOnce(T) -> Answer) -> Answer {
+    match result {
+        Ok(value) => answer(value),
+        Err(Refused { number, place }) => Answer::Refused { number, place },
+    }
+}
+
+fn held(verdict: Verdict) -> Answer {
+    match verdict {
+        Verdict::Holds => Answer::Holds,
+        Verdict::Late { picture, units } => Answer::Late {
+            picture: picture as u64,
+            units,
+        },
+    }
+}
+
+fn least_figures(least: Least) -> Answer {
+    Answer::Bucket {
+        buffer: least.buffer,
+        fullness: least.fullness,
+    }
+}
+
+fn found_figures(found: Found) -> Answer {
+    Answer::Bucket {
+        buffer: found.buffer,
+        fullness: found.fullness,
+    }
+}
+
+fn timed(seconds: Seconds) -> Answer {
+    Answer::Seconds {
+        wait: seconds.wait.to_bits(),
+        fill: seconds.fill.to_bits(),
+    }
+}
+
+fn read(reading: Reading) -> Answer {
+    match reading {
+        Reading::Within(wait) => Answer::Within {
+            wait: wait.to_bits(),
+        },
+        Reading::Over(wait, limit) => Answer::Over {
+            wait: wait.to_bits(),
+            limit: limit.to_bits(),
+        },
+    }
+}

@@ -1,0 +1,169 @@
+//! The cases: one call of one operation each, made from a seed and a number alone.
+
+use crate::damage::damage;
+use crate::draws;
+use crate::outcome::{Answer, Outcome};
+use oracle::xorshift::XorShift;
+
+pub const OPERATIONS: [&str; 8] = [
+    "judge", "verdict", "schedule", "least", "table", "look_up", "seconds", "panel",
+];
+
+/// Entries on either side of a lent list that the operation is not lent.
+pub(crate) const MARGIN: usize = 2;
+
+#[derive(Debug)]
+pub enum Case {
+    Judge {
+        rec: Record,
+    },
+    Verdict {
+        rec: Record,
+        asked: Asked,
+    },
+    Schedule {
+        rec: Record,
+        asked: Asked,
+        lent: Lent,
+    },
+    Least {
+        rec: Record,
+        rate: u64,
+    },
+    Table {
+        rec: Record,
+        rates: Vec<u64>,
+        lent: Lent,
+    },
+    LookUp {
+        rows: Rows,
+        rate: u64,
+    },
+    Seconds {
+        asked: Asked,
+    },
+    Panel {
+        asked: Asked,
+        limit: f64,
+    },
+}
+
+#[derive(Debug)]
+pub struct Record {
+    pub sizes: Vec<u64>,
+    pub ticks: Vec<u64>,
+    pub ts: u64,
+    pub nu: u64,
+}
+
+#[derive(Debug)]
+pub struct Asked {
+    pub rate: u64,
+    pub buffer: u64,
+    pub fullness: u64,
+}
+
+#[derive(Debug)]
+pub struct Rows {
+    pub rates: Vec<u64>,
+    pub buffers: Vec<u64>,
+    pub fulls: Vec<u64>,
+    pub ts: u64,
+    pub nu: u64,
+    pub span: u64,
+}
+
+/// Two lists with their margins; the operation is lent what lies between these.
+#[derive(Debug)]
+pub struct Lent {
+    pub at: usize,
+    pub lists: [Vec<u64>; 2],
+}
+
+impl Lent {
+    pub(crate) fn lend(&self, ask: impl FnOnce(&mut [u64], &mut [u64]) -> Answer) -> Outcome {
+        let [mut first, mut second] = self.lists.clone();
+        let (first_end, second_end) = (first.len() - MARGIN, second.len() - MARGIN);
+        let answer = ask(
+            &mut first[MARGIN..first_end],
+            &mut second[MARGIN..second_end],
+        );
+        Outcome {
+            answer,
+            lent: vec![first, second],
+        }
+    }
+}
+
+/// The operation that a case of this number is of, as an entry of `OPERATIONS`.
+pub fn operation(number: u64) -> usize {
+    (number % OPERATIONS.len() as u64) as usize
+}
+
+pub fn case(seed: u64, number: u64) -> Case {
+    let random = &mut stream(seed, number);
+    let mut case = valid(random, OPERATIONS[operation(number)]);
+    if draws::one_in(random, 3) {
+        for _ in 0..random.range(1, 3) {
+            damage(random, &mut case);
+        }
+    }
+    case
+}
+
+/// A stream of its own for each seed and number.
+fn stream(seed: u64, number: u64) -> XorShift {
+    let mut state = seed;
+    for word in [number, 1] {
+        state = state.wrapping_add(word).wrapping_add(0x9E37_79B9_7F4A_7C15);
+        state = (state ^ (state >> 30)).wrapping_mul(0xBF58_476D_1CE4_E5B9);
+        state = (state ^ (state >> 27)).wrapping_mul(0x94D0_49BB_1331_11EB);
+        state ^= state >> 31;
+    }
+    XorShift::new(state.max(1))
+}
+
+/// A case without a fault, but for the limit of a panel, which may be any double.
+fn valid(random: &mut XorShift, operation: &str) -> Case {
+    match operation {
+        "judge" => Case::Judge {
+            rec: draws::record(random, 200),
+        },
+        "verdict" => {
+            let rec = draws::record(random, 200);
+            let asked = draws::asked_of(random, &rec);
+            Case::Verdict { rec, asked }
+        }
+        "schedule" => {
+            let rec = draws::record(random, 200);
+            let asked = draws::asked_of(random, &rec);
+            let lent = draws::lent(random, rec.sizes.len());
+            Case::Schedule { rec, asked, lent }
+        }
+        "least" => {
+            let rec = draws::record(random, 2000);
+            let rate = draws::rate_of(random, &rec);
+            Case::Least { rec, rate }
+        }
+        "table" => {
+            let rec = draws::record(random, 2000);
+            let rates = draws::rates(random);
+            let lent = draws::lent(random, rates.len());
+            Case::Table { rec, rates, lent }
+        }
+        "look_up" => {
+            let rows = draws::rows(random);
+            let rate = draws::rate_beside(random, &rows.rates);
+            Case::LookUp { rows, rate }
+        }
+        "seconds" => Case::Seconds {
+            asked: draws::asked(random),
+        },
+        "panel" => {
+            let asked = draws::asked(random);
+            let limit = draws::limit(random, &asked);
+            Case::Panel { asked, limit }
+        }
+        other => unreachable!("{other} is no operation"),
+    }
+}

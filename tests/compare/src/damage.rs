@@ -1,0 +1,159 @@
+//! Damage to a case: one value or list of it put out of its range, so that the call is refused
+//! unless the damage happens to be harmless.
+
+use crate::cases::{Asked, Case, Lent, Record, Rows, MARGIN};
+use crate::draws::{one_in, pick, rising};
+use oracle::limits::{
+    BUFFER_MAX, NU_MAX, PICTURES_MAX, RATES_MAX, RATE_MAX, SIZE_MAX, SPAN_MAX, TS_MAX,
+};
+use oracle::xorshift::XorShift;
+
+pub fn damage(random: &mut XorShift, case: &mut Case) {
+    let first = one_in(random, 2);
+    match case {
+        Case::Judge { rec } => record(random, rec),
+        Case::Verdict { rec, .. } if first => record(random, rec),
+        Case::Verdict { asked, .. } => bucket(random, asked),
+        Case::Schedule { rec, .. } if first => record(random, rec),
+        Case::Schedule { asked, lent, .. } => {
+            if one_in(random, 2) {
+                bucket(random, asked)
+            } else {
+                room(random, lent)
+            }
+        }
+        Case::Least { rec, .. } if first => record(random, rec),
+        Case::Least { rate, .. } => *rate = outside(random, RATE_MAX),
+        Case::Table { rec, .. } if first => record(random, rec),
+        Case::Table { rates, lent, .. } => {
+            if one_in(random, 2) {
+                rate_list(random, rates)
+            } else {
+                room(random, lent)
+            }
+        }
+        Case::LookUp { rate, .. } if one_in(random, 6) => *rate = outside(random, RATE_MAX),
+        Case::LookUp { rows, .. } => table(random, rows),
+        Case::Seconds { asked } | Case::Panel { asked, .. } => bucket(random, asked),
+    }
+}
+
+fn outside(random: &mut XorShift, largest: u64) -> u64 {
+    pick(random, &[0, largest + 1, u64::MAX])
+}
+
+/// A place in a list that may be empty.
+fn place(random: &mut XorShift, list: &[u64]) -> Option<usize> {
+    let last = list.len().checked_sub(1)?;
+    Some(random.range(0, last as u64) as usize)
+}
+
+fn set_outside(random: &mut XorShift, list: &mut [u64], largest: u64) {
+    if let Some(i) = place(random, list) {
+        list[i] = outside(random, largest);
+    }
+}
+
+fn other_length(random: &mut XorShift, list: &mut Vec<u64>) {
+    match random.range(0, 3) {
+        0 => list.clear(),
+        1 => list.push(1),
+        2 => list.resize(PICTURES_MAX as usize + random.range(0, 1) as usize, 1),
+        _ => {
+            list.pop();
+        }
+    }
+}
+
+fn record(random: &mut XorShift, rec: &mut Record) {
+    match random.range(0, 8) {
+        0 | 1 => set_outside(random, &mut rec.sizes, SIZE_MAX),
+        2 | 3 => tick(random, &mut rec.ticks),
+        4 => rec.ts = outside(random, TS_MAX),
+        5 => rec.nu = outside(random, NU_MAX),
+        6 => other_length(random, &mut rec.sizes),
+        7 => other_length(random, &mut rec.ticks),
+        _ => {
+            let count = pick(random, &[0, PICTURES_MAX as usize + 1]);
+            rec.sizes.resize(count, 1);
+            rec.ticks.resize(count, u64::MAX);
+        }
+    }
+}
+
+fn tick(random: &mut XorShift, ticks: &mut [u64]) {
+    let Some(i) = place(random, ticks) else {
+        return;
+    };
+    let before = ticks[i.saturating_sub(1)];
+    let too_far = ticks[0].wrapping_add(SPAN_MAX + 1);
+    let choices = [before, before.wrapping_sub(1), too_far, 0, u64::MAX];
+    ticks[i] = pick(random, &choices);
+}
+
+fn bucket(random: &mut XorShift, asked: &mut Asked) {
+    match random.range(0, 2) {
+        0 => asked.rate = outside(random, RATE_MAX),
+        1 => asked.buffer = outside(random, BUFFER_MAX),
+        _ => asked.fullness = too_full(random, asked.buffer),
+    }
+}
+
+fn too_full(random: &mut XorShift, buffer: u64) -> u64 {
+    pick(random, &[0, buffer.wrapping_add(1), u64::MAX])
+}
+
+fn rate_list(random: &mut XorShift, rates: &mut Vec<u64>) {
+    match random.range(0, 3) {
+        0 => rates.clear(),
+        1 => *rates = rising(random, RATES_MAX as usize + 1),
+        2 => set_outside(random, rates, RATE_MAX),
+        _ => {
+            if let Some(i) = place(random, rates) {
+                let before = rates[i.saturating_sub(1)];
+                rates[i] = pick(random, &[before, before.saturating_sub(1)]);
+            }
+        }
+    }
+}
+
+/// The first entry at the end, past it or far past it, or lists that are too short.
+fn room(random: &mut XorShift, lent: &mut Lent) {
+    let either = one_in(random, 2) as usize;
+    let list = &mut lent.lists[either];
+    let length = list.len() - 2 * MARGIN;
+    match random.range(0, 4) {
+        0 => lent.at = length,
+        1 => lent.at = length + random.range(1, 3) as usize,
+        2 => lent.at = usize::MAX - random.range(0, 12) as usize,
+        3 => list.truncate(2 * MARGIN),
+        _ => {
+            let shorter = length.saturating_sub(random.range(1, 4) as usize);
+            list.truncate(shorter + 2 * MARGIN);
+        }
+    }
+}
+
+fn table(random: &mut XorShift, rows: &mut Rows) {
+    match random.range(0, 9) {
+        0 => rows.ts = outside(random, TS_MAX),
+        1 => rows.nu = outside(random, NU_MAX),
+        2 => rows.span = pick(random, &[SPAN_MAX + 1, u64::MAX]),
+        3 => other_length(random, &mut rows.buffers),
+        4 => other_length(random, &mut rows.fulls),
+        5 => {
+            let count = pick(random, &[0, RATES_MAX as usize + 1]);
+            rows.rates = rising(random, count);
+            rows.buffers.resize(count, 1);
+            rows.fulls.resize(count, 1);
+        }
+        6 => set_outside(random, &mut rows.buffers, BUFFER_MAX),
+        7 | 8 => {
+            if let Some(i) = place(random, &rows.fulls) {
+                let buffer = rows.buffers.get(i).copied().unwrap_or(1);
+                rows.fulls[i] = too_full(random, buffer);
+            }
+        }
+        _ => rate_list(random, &mut rows.rates),
+    }
+}

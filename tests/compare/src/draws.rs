@@ -1,0 +1,239 @@
+//! Draws of values in their ranges, the ends of the ranges often among them.
+
+use crate::by_oracle::recording;
+use crate::cases::{Asked, Lent, Record, Rows, MARGIN};
+use oracle::least::least;
+use oracle::limits::{
+    BUFFER_MAX, NU_MAX, PICTURES_MAX, RATES_MAX, RATE_MAX, SIZE_MAX, SPAN_MAX, TS_MAX,
+};
+use oracle::panel::seconds;
+use oracle::xorshift::XorShift;
+use std::collections::BTreeSet;
+
+/// Recordings up to this length are planned by the oracle while a case is drawn.
+const SHORT: usize = 64;
+
+pub fn one_in(random: &mut XorShift, times: u64) -> bool {
+    random.range(1, times) == 1
+}
+
+pub fn pick<T: Copy>(random: &mut XorShift, choices: &[T]) -> T {
+    choices[random.range(0, choices.len() as u64 - 1) as usize]
+}
+
+/// From 1 to `largest`, numbers of any width alike.
+pub fn up_to(random: &mut XorShift, largest: u64) -> u64 {
+    if one_in(random, 6) {
+        return pick(random, &[1, largest.div_ceil(2), largest]);
+    }
+    let width = random.range(0, u64::from(largest.ilog2()));
+    random.range(1 << width, (1 << width) * 2 - 1).min(largest)
+}
+
+/// A recording, long one time in so many.
+pub fn record(random: &mut XorShift, one_long_in: u64) -> Record {
+    let count = if one_in(random, one_long_in) {
+        let length = random.range(SHORT as u64, PICTURES_MAX);
+        pick(random, &[length, length, PICTURES_MAX])
+    } else if one_in(random, 20) {
+        random.range(13, SHORT as u64)
+    } else {
+        random.range(1, 12)
+    };
+    let largest = pick(random, &[4, 1_000, 100_000, SIZE_MAX]);
+    let sizes = if one_in(random, 10) {
+        vec![largest; count as usize]
+    } else {
+        (0..count).map(|_| up_to(random, largest)).collect()
+    };
+    let (ts, nu) = clock(random);
+    Record {
+        sizes,
+        ticks: ticks(random, count),
+        ts,
+        nu,
+    }
+}
+
+fn clock(random: &mut XorShift) -> (u64, u64) {
+    let any = (up_to(random, TS_MAX), up_to(random, NU_MAX));
+    let small = (random.range(1, 10), random.range(1, 10));
+    let usual = [(1, 1), (50, 1), (60_000, 1_001)];
+    pick(random, &[any, any, small, usual[0], usual[1], usual[2]])
+}
+
+fn ticks(random: &mut XorShift, count: u64) -> Vec<u64> {
+    let widest = SPAN_MAX / (count - 1).max(1);
+    let step = pick(random, &[1, 3.min(widest), widest]);
+    let mut offsets = vec![0];
+    for i in 1..count as usize {
+        offsets.push(offsets[i - 1] + random.range(1, step));
+    }
+    let last = count as usize - 1;
+    if last > 0 && one_in(random, 5) {
+        offsets[last] = SPAN_MAX;
+    }
+    let latest = u64::MAX - offsets[last];
+    let small = random.range(0, 100);
+    let any = random.draw().min(latest);
+    let first = pick(random, &[0, small, any, latest]);
+    offsets.iter().map(|offset| first + offset).collect()
+}
+
+/// A rate, near the mean rate of the recording or anywhere.
+pub fn rate_of(random: &mut XorShift, rec: &Record) -> u64 {
+    if one_in(random, 2) {
+        return up_to(random, RATE_MAX);
+    }
+    let bits: u64 = rec.sizes.iter().sum();
+    let mean = bits * rec.ts / (span(rec).max(1) * rec.nu);
+    let percent = random.range(30, 170);
+    (mean.min(RATE_MAX) * percent / 100).clamp(1, RATE_MAX)
+}
+
+fn span(rec: &Record) -> u64 {
+    rec.ticks[rec.ticks.len() - 1] - rec.ticks[0]
+}
+
+/// A rate and a bucket, anywhere or near the least figures of a short recording.
+pub fn asked_of(random: &mut XorShift, rec: &Record) -> Asked {
+    let rate = rate_of(random, rec);
+    if rec.sizes.len() > SHORT || one_in(random, 4) {
+        return Asked {
+            rate,
+            ..asked(random)
+        };
+    }
+    let least = least(&recording(rec), rate).expect("a drawn recording has no fault");
+    let fullness = near(random, least.fullness);
+    let buffer = near(random, least.buffer).max(fullness);
+    Asked {
+        rate,
+        buffer,
+        fullness,
+    }
+}
+
+fn near(random: &mut XorShift, figure: u64) -> u64 {
+    let away = pick(random, &[1, 1, 1, figure]);
+    let low = figure.saturating_sub(away).max(1);
+    random.range(low, (figure + away).min(BUFFER_MAX))
+}
+
+pub fn asked(random: &mut XorShift) -> Asked {
+    let buffer = up_to(random, BUFFER_MAX);
+    let fullness = up_to(random, buffer);
+    Asked {
+        rate: up_to(random, RATE_MAX),
+        buffer,
+        fullness,
+    }
+}
+
+/// Two lists with room for so many entries, and some before and after them.
+pub fn lent(random: &mut XorShift, count: usize) -> Lent {
+    let at = random.range(0, 3) as usize;
+    let mut list = || {
+        let after = random.range(0, 3) as usize;
+        let length = MARGIN + at + count + after + MARGIN;
+        (0..length).map(|_| random.draw()).collect()
+    };
+    Lent {
+        at,
+        lists: [list(), list()],
+    }
+}
+
+pub fn rates(random: &mut XorShift) -> Vec<u64> {
+    let any = random.range(1, RATES_MAX);
+    let few = random.range(1, 4);
+    let count = pick(random, &[few, few, few, few, few, few, any, RATES_MAX]);
+    rising(random, count as usize)
+}
+
+/// So many rates that rise, one time in four with both ends of the range where two fit.
+pub fn rising(random: &mut XorShift, count: usize) -> Vec<u64> {
+    let mut rates = BTreeSet::new();
+    if count >= 2 && one_in(random, 4) {
+        rates.extend([1, RATE_MAX]);
+    }
+    while rates.len() < count {
+        rates.insert(up_to(random, RATE_MAX));
+    }
+    rates.into_iter().collect()
+}
+
+/// The table of a recording, or one that is no recording's.
+pub fn rows(random: &mut XorShift) -> Rows {
+    let rates = rates(random);
+    if one_in(random, 2) {
+        let rec = record(random, 100_000);
+        let table: Vec<_> = rates
+            .iter()
+            .map(|&rate| least(&recording(&rec), rate).expect("a drawn recording has no fault"))
+            .collect();
+        return Rows {
+            rates,
+            buffers: table.iter().map(|least| least.buffer).collect(),
+            fulls: table.iter().map(|least| least.fullness).collect(),
+            ts: rec.ts,
+            nu: rec.nu,
+            span: span(&rec),
+        };
+    }
+    let buffers: Vec<u64> = if one_in(random, 8) {
+        vec![BUFFER_MAX; rates.len()]
+    } else {
+        rates.iter().map(|_| up_to(random, BUFFER_MAX)).collect()
+    };
+    let fulls = buffers.iter().map(|&b| up_to(random, b)).collect();
+    let (ts, nu) = clock(random);
+    let any = random.range(0, SPAN_MAX);
+    Rows {
+        rates,
+        buffers,
+        fulls,
+        ts,
+        nu,
+        span: pick(random, &[0, any, SPAN_MAX]),
+    }
+}
+
+/// A rate on a row, beside one, or anywhere.
+pub fn rate_beside(random: &mut XorShift, rates: &[u64]) -> u64 {
+    let row = pick(random, rates);
+    let any = up_to(random, RATE_MAX);
+    let (first, last) = (rates[0], rates[rates.len() - 1]);
+    let between = random.range(first, last);
+    let beside = pick(random, &[row - 1, row, row + 1]);
+    pick(random, &[any, between, beside]).clamp(1, RATE_MAX)
+}
+
+/// Limits beside the wait, far from it, and doubles that are no limit.
+pub fn limit(random: &mut XorShift, asked: &Asked) -> f64 {
+    let wait = seconds(asked.rate, asked.buffer, asked.fullness)
+        .expect("a drawn bucket has no fault")
+        .wait;
+    let fraction = random.range(1, 200) as f64 / 100.0;
+    let subnormal = f64::from_bits(random.range(1, (1 << 52) - 1));
+    let any = f64::from_bits(random.draw());
+    let special = [
+        f64::NAN,
+        -f64::NAN,
+        f64::INFINITY,
+        f64::NEG_INFINITY,
+        0.0,
+        -0.0,
+        -wait,
+        subnormal,
+        -subnormal,
+        f64::MIN_POSITIVE,
+        f64::from_bits(1),
+        f64::MAX,
+        f64::MIN,
+    ];
+    let special = pick(random, &special);
+    let nearby = [wait, wait.next_down(), wait.next_up(), wait * fraction];
+    let nearby = pick(random, &nearby);
+    pick(random, &[nearby, nearby, nearby, special, any])
+}

@@ -1,0 +1,9 @@
+//! The built library against the independent second program: random cases of every exported
+//! operation, and what each of the two answers to a case.
+
+pub mod by_library;
+pub mod by_oracle;
+pub mod cases;
+mod damage;
+mod draws;
+pub mod outcome;
