@@ -1,4 +1,4 @@
-/* The leaky bucket planner for C: the eight operations of libplanner.a and their answers.
+/* The leaky bucket planner for C: the operations of libplanner.a and their answers.
  * Numbers of refusals, places and limits are those of docs/RULES.md.
  *
  * What the caller owes:
@@ -12,7 +12,8 @@
  * - Every list stays the caller's. The planner keeps no pointer, allocates nothing and remembers
  *   nothing from one call to the next.
  * - A refusal has kind 0, its number and its place; all figures are 0 and the lists that the call
- *   could have written are unchanged. Of several faults the lowest number is given.
+ *   could have written are unchanged. Of several faults the lowest number is given, but for a
+ *   parameter record in the order that its operations name.
  * - Any other answer has number 0 and place 0; a figure that its kind does not name is 0.
  */
 #ifndef PLANNER_H
@@ -69,6 +70,40 @@ typedef struct PlannerReading {
     double limit;
 } PlannerReading;
 
+/* A parameter record, by the names of H.264 E.1.2: the number of its rows, from 1 to 32, and that
+ * many rows, the first entries of the three lists. Entries after these are 0 in a record that was
+ * read and not looked at in one to write. Rates rise strictly from row to row and sizes do not
+ * rise; cbr_flag is 0 or 1; lengths are as coded. */
+typedef struct PlannerParams {
+    size_t cpb_cnt;
+    uint64_t bit_rate_scale;
+    uint64_t cpb_size_scale;
+    uint64_t bit_rate_value_minus1[32];
+    uint64_t cpb_size_value_minus1[32];
+    uint64_t cbr_flag[32];
+    uint64_t initial_cpb_removal_delay_length_minus1;
+    uint64_t cpb_removal_delay_length_minus1;
+    uint64_t dpb_output_delay_length_minus1;
+    uint64_t time_offset_length;
+} PlannerParams;
+
+/* Kind 1: the record and the first bit position after it. */
+typedef struct PlannerRead {
+    uint64_t kind;
+    uint64_t number;
+    uint64_t place;
+    uint64_t next;
+    PlannerParams params;
+} PlannerRead;
+
+/* Kind 1: the first bit position after the record. */
+typedef struct PlannerPosition {
+    uint64_t kind;
+    uint64_t number;
+    uint64_t place;
+    uint64_t next;
+} PlannerPosition;
+
 /* The arguments that several operations share:
  *   sizes     bits of each picture; the picture count is the length of this list
  *   ticks     removal tick of each picture, strictly rising from any first value
@@ -77,7 +112,9 @@ typedef struct PlannerReading {
  *   buffer    bits of the buffer
  *   fullness  start fullness in bits, from 1 to buffer
  *   at        first entry to write in both lent lists; each needs room from there on, and entries
- *             before it and after the last one written stay untouched */
+ *             before it and after the last one written stay untouched
+ *   bytes     bits, of each byte the highest first; only the first 2^29 bytes count
+ *   start     bit position at which a record starts, counted from 0 */
 
 /* Judges a recording and its clock.
  * Refusals: 1 (picture count), 2 (lists of different length) and 3 (ts or nu) at 0; 4 (a size) and
@@ -131,6 +168,27 @@ PlannerSeconds planner_seconds(uint64_t rate, uint64_t buffer, uint64_t fullness
 /* Compares the wait with the driver's limit in seconds; a wait equal to the limit is within.
  * Refusals: 6 and 7 as planner_seconds; 13 (the limit is no finite number above 0) at 0. */
 PlannerReading planner_panel(uint64_t rate, uint64_t buffer, uint64_t fullness, double limit);
+
+/* Reads a parameter record at a bit position. On refusal the record is all zero and next is 0.
+ * Refusals: 9 (the bits end inside the record, or the start is past the end) at 0; 10 (a field
+ * breaks its range or its rule) at the row of that field, at 0 for a field outside the rows. The
+ * first of these in bit order is given. */
+PlannerRead planner_read_params(const uint8_t *bytes, size_t bytes_length, uint64_t start);
+
+/* Writes a parameter record at a bit position; only the record's own bits change.
+ * Refusals: 10 (a field breaks its range or its rule) at the row of the first such field in bit
+ * order, at 0 for a field outside the rows; then 8 (too little room) at 0. */
+PlannerPosition planner_write_params(PlannerParams params, uint8_t *bytes, size_t bytes_length,
+                                     uint64_t start);
+
+/* Says whether a row of a parameter record, counted from 0, holds a recording from a start fullness
+ * on: the row's rate and size are the bucket's.
+ * Refusals: 10 of the record as planner_write_params; then 6 at 0 (no such row); then the lowest of
+ * 1 to 7 as planner_verdict and 11 (the row has cbr_flag 1) at the row. */
+PlannerVerdict planner_row_verdict(const uint64_t *sizes, size_t sizes_length,
+                                   const uint64_t *ticks, size_t ticks_length, uint64_t ts,
+                                   uint64_t nu, PlannerParams params, size_t row,
+                                   uint64_t fullness);
 
 #ifdef __cplusplus
 }

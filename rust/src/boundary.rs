@@ -1,5 +1,7 @@
 //! The exported functions and their answers as C has them: the Rust side of include/planner.h.
 
+use crate::Params;
+
 #[repr(C)]
 pub struct PlannerJudgement {
     pub kind: u64,
@@ -41,6 +43,23 @@ pub struct PlannerReading {
     pub place: u64,
     pub wait: f64,
     pub limit: f64,
+}
+
+#[repr(C)]
+pub struct PlannerRead {
+    pub kind: u64,
+    pub number: u64,
+    pub place: u64,
+    pub next: u64,
+    pub params: Params,
+}
+
+#[repr(C)]
+pub struct PlannerPosition {
+    pub kind: u64,
+    pub number: u64,
+    pub place: u64,
+    pub next: u64,
 }
 
 extern "C" {
@@ -124,4 +143,25 @@ extern "C" {
     pub fn planner_seconds(rate: u64, buffer: u64, fullness: u64) -> PlannerSeconds;
 
     pub fn planner_panel(rate: u64, buffer: u64, fullness: u64, limit: f64) -> PlannerReading;
+
+    pub fn planner_read_params(bytes: *const u8, bytes_length: usize, start: u64) -> PlannerRead;
+
+    pub fn planner_write_params(
+        params: Params,
+        bytes: *mut u8,
+        bytes_length: usize,
+        start: u64,
+    ) -> PlannerPosition;
+
+    pub fn planner_row_verdict(
+        sizes: *const u64,
+        sizes_length: usize,
+        ticks: *const u64,
+        ticks_length: usize,
+        ts: u64,
+        nu: u64,
+        params: Params,
+        row: usize,
+        fullness: u64,
+    ) -> PlannerVerdict;
 }

@@ -62,6 +62,23 @@ pub enum Reading {
     Over(f64, f64),
 }
 
+/// A parameter record, by the names of H.264 E.1.2: the number of its rows and that many rows.
+/// Entries after these are 0 in a record that was read and not looked at in one to write.
+#[repr(C)]
+#[derive(Clone, Copy, Debug, Default, PartialEq, Eq)]
+pub struct Params {
+    pub cpb_cnt: usize,
+    pub bit_rate_scale: u64,
+    pub cpb_size_scale: u64,
+    pub bit_rate_value_minus1: [u64; 32],
+    pub cpb_size_value_minus1: [u64; 32],
+    pub cbr_flag: [u64; 32],
+    pub initial_cpb_removal_delay_length_minus1: u64,
+    pub cpb_removal_delay_length_minus1: u64,
+    pub dpb_output_delay_length_minus1: u64,
+    pub time_offset_length: u64,
+}
+
 /// Judges a recording and its clock.
 pub fn judge(rec: &Recording) -> Result<(), Refused> {
     // SAFETY: pointers and lengths are those of live slices, which nothing writes.
@@ -220,6 +237,56 @@ pub fn panel(rate: u64, bucket: Bucket, limit: f64) -> Result<Reading, Refused> 
         2 => Ok(Reading::Over(answer.wait, answer.limit)),
         other => unknown(other),
     }
+}
+
+/// Reads a parameter record at a bit position and gives the first position after it.
+pub fn read_params(bytes: &[u8], start: u64) -> Result<(Params, u64), Refused> {
+    // SAFETY: pointer and length are those of a live slice, which nothing writes.
+    let answer = unsafe { boundary::planner_read_params(bytes.as_ptr(), bytes.len(), start) };
+    debug_assert!(answer.kind != 0 || answer.params == Params::default());
+    match kind(answer.kind, answer.number, answer.place, [answer.next, 0])? {
+        1 => Ok((answer.params, answer.next)),
+        other => unknown(other),
+    }
+}
+
+/// Writes a parameter record at a bit position, changing its own bits only, and gives the first
+/// position after it.
+pub fn write_params(params: &Params, bytes: &mut [u8], start: u64) -> Result<u64, Refused> {
+    // SAFETY: pointer and length are those of a live slice, borrowed mutably; the record is
+    // copied.
+    let answer =
+        unsafe { boundary::planner_write_params(*params, bytes.as_mut_ptr(), bytes.len(), start) };
+    match kind(answer.kind, answer.number, answer.place, [answer.next, 0])? {
+        1 => Ok(answer.next),
+        other => unknown(other),
+    }
+}
+
+/// Says whether a row of a parameter record, counted from 0, holds a recording from a start
+/// fullness on.
+pub fn row_verdict(
+    rec: &Recording,
+    params: &Params,
+    row: usize,
+    fullness: u64,
+) -> Result<Verdict, Refused> {
+    // SAFETY: pointers and lengths are those of live slices, which nothing writes; the record is
+    // copied.
+    let answer = unsafe {
+        boundary::planner_row_verdict(
+            rec.sizes.as_ptr(),
+            rec.sizes.len(),
+            rec.ticks.as_ptr(),
+            rec.ticks.len(),
+            rec.ts,
+            rec.nu,
+            *params,
+            row,
+            fullness,
+        )
+    };
+    held(answer)
 }
 
 fn passed(answer: PlannerJudgement) -> Result<(), Refused> {

@@ -1,1 +1,1 @@
-mod ShiftLaws
+pub mod ShiftLaws

@@ -1,6 +1,7 @@
 -- For each public operation: two outcomes that its promise allows are equal, answer, place and the lists afterwards. Promises:
 -- specs/Promises.antt.
---     judge-unique, verdict-unique, schedule-unique, least-unique, table-unique, lookup-unique, seconds-unique, panel-unique
+--     judge-unique, verdict-unique, schedule-unique, least-unique, table-unique, lookup-unique, seconds-unique, panel-unique,
+--     record-unique, read-unique, write-unique, row-unique
 -- Assumes nothing.
 use Prim.Native.Nat.{ℕ}
 use native.Mathlib.Omega.{arith}
@@ -12,6 +13,7 @@ use Rattle.model.specs.Arrival.{Bucket, bucket}
 use Rattle.model.specs.Lookup.{Table}
 use Rattle.model.specs.Outcomes as outcomes
 use Rattle.model.specs.Panel.{Seconds}
+use Rattle.model.specs.Params as params
 use Rattle.recording.specs.Outcome.{judgementOf}
 use Rattle.recording.specs.declared.Judgement.{Judgement}
 use Rattle.recording.specs.declared.Judgement.the-variants as judgement
@@ -31,7 +33,14 @@ use Rattle.panel.specs.declared.Timed.{Timed}
 use Rattle.panel.specs.declared.Timed.the-variants as timed
 use Rattle.panel.specs.declared.Reading.{Reading}
 use Rattle.panel.specs.declared.Reading.the-variants as reading
-use Rattle.claims.specs.Promises.{JudgePromise, VerdictPromise, SchedulePromise, LeastPromise, TablePromise, LookupPromise, SecondsPromise, PanelPromise}
+use Rattle.hrd.specs.Outcome as hrd
+use Rattle.hrd.specs.declared.Params.{Params}
+use Rattle.hrd.specs.declared.Judged.{Judged}
+use Rattle.hrd.specs.declared.Judged.the-variants as judged
+use Rattle.hrd.specs.declared.Position.{Position}
+use Rattle.hrd.specs.declared.Position.the-variants as position
+use Rattle.hrd.specs.declared.Found as read
+use Rattle.claims.specs.Promises.{JudgePromise, VerdictPromise, SchedulePromise, LeastPromise, TablePromise, LookupPromise, SecondsPromise, PanelPromise, RecordPromise, ReadPromise, WritePromise, RowPromise}
 
 -- each answer is told by its meaning: no two variants say the same
 judgementOf-one : (v w : Judgement) → judgementOf v ≡ judgementOf w → v ≡ w
@@ -90,6 +99,37 @@ readingOf-one (reading.Refused n i) (reading.Within x′) e = let z : _≡_ {A =
 readingOf-one (reading.Refused n i) (reading.Over x′ y′) e = let z : _≡_ {A = ℕ} 0 1 = cc in absurd (omega arith)
 readingOf-one (reading.Refused n i) (reading.Refused n′ i′) e = cc
 
+judged-one : (v w : Judged) → hrd.judgementOf v ≡ hrd.judgementOf w → v ≡ w
+judged-one judged.Passed judged.Passed e = refl
+judged-one judged.Passed (judged.Refused n′ i′) e = let z : _≡_ {A = ℕ} 0 1 = cc in absurd (omega arith)
+judged-one (judged.Refused n i) judged.Passed e = let z : _≡_ {A = ℕ} 0 1 = cc in absurd (omega arith)
+judged-one (judged.Refused n i) (judged.Refused n′ i′) e = cc
+
+positionOf-one : (v w : Position) → hrd.positionOf v ≡ hrd.positionOf w → v ≡ w
+positionOf-one (position.Next p) (position.Next p′) e = cc
+positionOf-one (position.Next p) (position.Refused n′ i′) e = let z : _≡_ {A = ℕ} 0 1 = cc in absurd (omega arith)
+positionOf-one (position.Refused n i) (position.Next p′) e = let z : _≡_ {A = ℕ} 0 1 = cc in absurd (omega arith)
+positionOf-one (position.Refused n i) (position.Refused n′ i′) e = cc
+
+-- the record that means p
+abbrev codeParams : params.Params → Params
+codeParams p =
+    record {
+      «cpb_cnt» = p .cpb-cnt;
+      «bit_rate_scale» = p .bit-rate-scale;
+      «cpb_size_scale» = p .cpb-size-scale;
+      «bit_rate_value_minus1» = p .bit-rate-value-minus1;
+      «cpb_size_value_minus1» = p .cpb-size-value-minus1;
+      «cbr_flag» = p .cbr-flag;
+      «initial_cpb_removal_delay_length_minus1» = p .initial-cpb-removal-delay-length-minus1;
+      «cpb_removal_delay_length_minus1» = p .cpb-removal-delay-length-minus1;
+      «dpb_output_delay_length_minus1» = p .dpb-output-delay-length-minus1;
+      «time_offset_length» = p .time-offset-length;
+    }
+
+paramsOf-one : (v w : Params) → hrd.paramsOf v ≡ hrd.paramsOf w → v ≡ w
+paramsOf-one v w e = ap codeParams e
+
 pub judge-unique : (k : Recording) (v w : Judgement) → JudgePromise k v → JudgePromise k w → v ≡ w
 judge-unique k v w p q = judgementOf-one v w (p ∙ sym q)
 
@@ -119,3 +159,22 @@ seconds-unique u v w p q = timedOf-one v w (p ∙ sym q)
 
 pub panel-unique : (u : Bucket) (limit : Float) (v w : Reading) → PanelPromise u limit v → PanelPromise u limit w → v ≡ w
 panel-unique u limit v w p q = readingOf-one v w (p ∙ sym q)
+
+pub record-unique : (p : Params) (v w : Judged) → RecordPromise p v → RecordPromise p w → v ≡ w
+record-unique p v w a b = judged-one v w (a ∙ sym b)
+
+pub read-unique : (bytes : List ℕ) (start : ℕ) (v w : read.Found) → ReadPromise bytes start v → ReadPromise bytes start w → v ≡ w
+read-unique bytes start v w a b =
+    let same = a ∙ sym b in
+    let position = positionOf-one (v .position) (w .position) (ap (λ (o : params.ParamsRead). o .answer) same) in
+    let record′ = paramsOf-one (v .params) (w .params) (ap (λ (o : params.ParamsRead). o .params) same) in
+    λ i. record { position = position i; params = record′ i }
+
+pub write-unique : (p : Params) (bytes : List ℕ) (start : ℕ) (v w : Position) (after after′ : List ℕ)
+    → WritePromise p bytes start v after → WritePromise p bytes start w after′ → (v ≡ w) × (after ≡ after′)
+write-unique p bytes start v w after after′ a b =
+    let same = a ∙ sym b in
+    (positionOf-one v w (ap (λ (o : params.ParamsWritten). o .answer) same), ap (λ (o : params.ParamsWritten). o .bytes) same)
+
+pub row-unique : (k : Recording) (p : Params) (row fullness : ℕ) (v w : Verdict) → RowPromise k p row fullness v → RowPromise k p row fullness w → v ≡ w
+row-unique k p row fullness v w a b = answerOf-one v w (a ∙ sym b)

@@ -8,6 +8,10 @@
 --     LookupPromise     lookup::look_up
 --     SecondsPromise    panel::seconds_of
 --     PanelPromise      panel::panel
+--     RecordPromise     hrd::judge_params
+--     ReadPromise       hrd::read_params
+--     WritePromise      hrd::write_params, with its bytes afterwards
+--     RowPromise        verdict::row_verdict
 -- Assumes nothing.
 use Prim.Native.Nat.{ℕ}
 use mathlib.Core.Path.{_≡_}
@@ -18,6 +22,7 @@ use Rattle.model.specs.Arrival.{Bucket}
 use Rattle.model.specs.Lookup.{Table}
 use Rattle.model.specs.Outcomes.{judgeOutcome, verdictOutcome, scheduleOutcome, leastOutcome, tableOutcome, lookupOutcome}
 use Rattle.model.specs.Panel.{secondsOutcome, panelOutcome}
+use Rattle.model.specs.Params.{paramsJudged, readOutcome, writeOutcome, rowVerdictOutcome}
 use Rattle.recording.specs.Outcome.{judgementOf}
 use Rattle.recording.specs.declared.Judgement.{Judgement}
 use Rattle.schedule.specs.Outcome.{answerOf, scheduled}
@@ -30,6 +35,11 @@ use Rattle.lookup.specs.declared.Found.{Found}
 use Rattle.panel.specs.Outcome.{timedOf, readingOf}
 use Rattle.panel.specs.declared.Timed.{Timed}
 use Rattle.panel.specs.declared.Reading.{Reading}
+use Rattle.hrd.specs.Outcome as hrd
+use Rattle.hrd.specs.declared.Params.{Params}
+use Rattle.hrd.specs.declared.Judged.{Judged}
+use Rattle.hrd.specs.declared.Position.{Position}
+use Rattle.hrd.specs.declared.Found as read
 
 abbrev pub JudgePromise : Recording → Judgement → Type 0
 JudgePromise k r = judgementOf r ≡ judgeOutcome k
@@ -54,3 +64,15 @@ SecondsPromise u r = timedOf r ≡ secondsOutcome u
 
 abbrev pub PanelPromise : Bucket → (limit : Float) → Reading → Type 0
 PanelPromise u limit r = readingOf r ≡ panelOutcome u limit
+
+abbrev pub RecordPromise : Params → Judged → Type 0
+RecordPromise params r = hrd.judgementOf r ≡ paramsJudged (hrd.paramsOf params)
+
+abbrev pub ReadPromise : (bytes : List ℕ) (start : ℕ) → read.Found → Type 0
+ReadPromise bytes start r = hrd.paramsRead r ≡ readOutcome bytes start
+
+abbrev pub WritePromise : Params → (bytes : List ℕ) (start : ℕ) → Position → (after : List ℕ) → Type 0
+WritePromise params bytes start r after = hrd.paramsWritten r after ≡ writeOutcome (hrd.paramsOf params) bytes start
+
+abbrev pub RowPromise : Recording → Params → (row fullness : ℕ) → Verdict → Type 0
+RowPromise k params row fullness r = answerOf r ≡ rowVerdictOutcome k (hrd.paramsOf params) row fullness

@@ -25,6 +25,7 @@ ghost use Rattle.hrd.specs.Steps.{codeOf, fieldOf, rowField, keptBy, ste
 pub const VALUES_MAX: usize = 3 + 3 * CPB_CNT_MAX + 4;
 
 // A parameter record: its count of rows and that many rows, by the standard's names. cbr_flag is 0 or 1.
+#[repr(C)]
 pub struct Params {
     pub cpb_cnt: usize,
     pub bit_rate_scale: u64,

@@ -10,6 +10,7 @@
 --     gotWithin-in, gotWithin-past    a value is got up to the end of the bits, and not past it
 --     code-back           a value written is read again, and the next position is behind it
 --     code-sound          a value read stands there as written, fits its code, and the next position is behind it
+--     Longer, code-cut    in bits that end earlier a code reads the same, or the bits end inside it
 --     ue-prefix           no ue(v) code begins another: codes followed by anything are equal only for equal values
 --     ue-one              every value 0 to 2^32 - 2 has a code, and just one list of bits reads as it
 --     codeBits-all        the bits of a code are 0 or 1
@@ -20,7 +21,7 @@ use native.Mathlib.Decide.{decLe, ℕ-discrete}
 use native.Mathlib.Numerals.{add-one}
 use native.Mathlib.Omega.{arith}
 use mathlib.Core.Path.{_≡_, refl, sym, ap, ap₂, _∙_}
-use mathlib.Core.Logic.{_↔_, ⊎-elim, _≢_}
+use mathlib.Core.Logic.{_↔_, _⊎_, inl, inr, ⊎-elim, _≢_}
 use mathlib.Core.List.{List, [], _∷_, _++_}
 use lib.ListN.{length, getD, replicate, length-append, length-replicate, getD-replicate, replicate-append-replicate, List·getD-append}
 use lib.Seq.{getD-append-add, ext-getD}
@@ -28,7 +29,7 @@ use lib.Pow.{pow-pos, pow-mono, shr-shr}
 use borrow.Author.Tests.{le-leb, lt-leb, eq-eqb, ne-eqb}
 use Rattle.rules.specs.Limits.{valueMax, zerosMax}
 use Rattle.model.proofs.NumbersLaws.{Each, append-each}
-use Rattle.model.specs.Codes.{Bits, Code, u, ue, got, ended, unsigned, oneMore, zerosFrom, gotWithin, readUe, readCode, unsignedBits, zerosOf, codeBits, CodeFits, Stands}
+use Rattle.model.specs.Codes.{Bits, Code, u, ue, Read, got, ended, broken, unsigned, oneMore, zerosFrom, gotWithin, readUe, readCode, unsignedBits, zerosOf, codeBits, CodeFits, Stands}
 
 -- every bit of x is 0 or 1
 abbrev pub Binary : Bits → Type 0
@@ -239,6 +240,57 @@ code-sound x (u w) p v next hb e =
     let (fits, ev, en) = gotWithin-sound x p (unsigned x p w) (p + w) v next e in
     rw (ev, en) (unsigned-lt x p w hb, record { within = rw unsignedBits-length fits; same = unsigned-each x p w hb }, rw unsignedBits-length)
 code-sound x ue p v next hb e = readUe-sound x p _ v next hb (zerosFrom-zeros x p (min zerosMax (x .end - p))) e
+
+-- the bits of x begin with those of y
+pub record Longer (x y : Bits) : Type 0 where
+  pub end : y .end ≤ x .end
+  pub same : (q : ℕ) → q < y .end → x .bit q ≡ y .bit q
+
+longer-stands : {x y : Bits} {p : ℕ} (bits : List ℕ) → Longer x y → Stands y p bits → Stands x p bits
+longer-stands {p = p} bits l st =
+    record { within = omega (arith, l .end, st .within); same = λ i h. l .same (p + i) (omega (arith, st .within)) ∙ st .same i h }
+
+gotWithin-not-broken : (x : Bits) (p value next q : ℕ) → gotWithin x p value next ≡ broken q → ⊥
+gotWithin-not-broken x p value next q e =
+    elim (decLe next (x .end)) [
+      | yes h ↦ let g = gotWithin-in x p value next h in let c : _≡_ {A = ℕ} 0 1 = cc in omega arith
+      | no h ↦ let g = gotWithin-past x p value next (lt-of-not-le h) in let c : _≡_ {A = ℕ} 0 1 = cc in omega arith
+    ]
+
+-- a code is broken only by 32 zeros
+readUe-broken : (x : Bits) (p z q : ℕ) → readUe x p z ≡ broken q → z ≡ zerosMax
+readUe-broken x p z q e =
+    elim (ℕ-discrete z zerosMax) [
+      | yes h ↦ h
+      | no h ↦ absurd (gotWithin-not-broken x p (2 ^ z - 1 + unsigned x (p + z + 1) z) (p + z + 1 + z) q (rw (ne-eqb z zerosMax h) at e))
+    ]
+
+zeros-broken : (x : Bits) (p : ℕ) → Zeros x p (min zerosMax (x .end - p)) zerosMax → readCode x ue p ≡ broken p
+zeros-broken x p zs = rw (zeros-one zs)
+
+-- and it is broken in all bits that begin with these
+broken-longer : (x y : Bits) (p : ℕ) → Longer x y → Zeros y p (min zerosMax (y .end - p)) zerosMax → readCode y ue p ≡ readCode x ue p
+broken-longer x y p l zs =
+    let room : p + zerosMax ≤ y .end = omega (arith, zs .upTo) in
+    let zx : Zeros x p (min zerosMax (x .end - p)) zerosMax = record { run = λ i h. l .same (p + i) (omega arith) ∙ zs .run i h; stop = omega arith; upTo = omega (arith, l .end) } in
+    zeros-broken y p zs ∙ sym (zeros-broken x p zx)
+
+pub code-cut : (x y : Bits) (c : Code) (p : ℕ) → Binary y → Longer x y → ((q : ℕ) × (readCode y c p ≡ ended q)) ⊎ (readCode y c p ≡ readCode x c p)
+code-cut x y c p hb l = go (readCode y c p) refl
+  where
+    broken-same : (c : Code) (q : ℕ) → readCode y c p ≡ broken q → readCode y c p ≡ readCode x c p
+    broken-same (u w) q e = absurd (gotWithin-not-broken y p (unsigned y p w) (p + w) q e)
+    broken-same ue q e =
+        let n = min zerosMax (y .end - p) in
+        let is : zerosFrom y p n ≡ zerosMax = readUe-broken y p (zerosFrom y p n) q e in
+        broken-longer x y p l (rw is at (zerosFrom-zeros y p n))
+
+    go : (r : Read) → readCode y c p ≡ r → ((q : ℕ) × (readCode y c p ≡ ended q)) ⊎ (readCode y c p ≡ readCode x c p)
+    go (got v next) e =
+        let (fits, st, behind) = code-sound y c p v next hb e in
+        inr (e ∙ ap (got v) behind ∙ sym (code-back x c p v fits (longer-stands (codeBits c v) l st)))
+    go (ended q) e = inl (q, e)
+    go (broken q) e = inr (broken-same c q e)
 
 -- a list of bits as a run of bits
 abbrev pub listBits : List ℕ → Bits

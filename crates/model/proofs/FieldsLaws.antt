@@ -7,34 +7,37 @@
 --     fields-sound     values read pass, stand there as written, and the next position is behind them
 --     params-rates     in an accepted record rates rise, over all pairs of rows
 --     params-sizes     and sizes do not
+--     params-scales    both scales keep their width
+--     params-values    and the rate and the size value of a row are at most the largest
 --     params-back      an accepted record written is read again, field by field
 --     params-sound     a record read is accepted, and its bits stand there as a writer would write them
+--     ShortOr, params-cut    in bits that end earlier a record reads the same, or the bits end inside one of its fields
 -- Assumes nothing.
-use Prim.Native.Nat.{ℕ, zero, suc, _+_, _-_, _*_, _≤_, _<_, suc-le-suc}
+use Prim.Native.Nat.{ℕ, zero, suc, _+_, _-_, _*_, _^_, _≤_, _<_, zero-le, suc-le-suc}
 use native.Mathlib.Nat.{add-zero, add-assoc, mul-suc, le-refl, le-trans, lt-trans, eq-or-lt-of-le, not-suc-le-zero}
 use native.Mathlib.Decide.{le-ind}
 use native.Mathlib.Numerals.{add-one}
 use native.Mathlib.Omega.{arith}
 use mathlib.Core.Path.{_≡_, refl, sym, ap, _∙_}
 use mathlib.Core.Bool.{Bool, true, false, cond, and-eq-true-iff}
-use mathlib.Core.Logic.{_↔_, ⊎-elim}
+use mathlib.Core.Logic.{_↔_, _⊎_, inl, inr, ⊎-elim}
 use mathlib.Core.List.{List, [], _∷_, _++_, append-nil, append-assoc}
 use lib.ListN.{length, getD, length-append}
 use lib.Seq.{getD-at}
 use lib.Dec.{ltb, lit≤}
 use borrow.Author.Tests.{leb-true, ltb-true, lt-ltb}
-use Rattle.rules.specs.Limits.{cpbCntMax}
+use Rattle.rules.specs.Limits.{cpbCntMax, valueMax, scaleWidth}
 use Rattle.rules.specs.Refusals as refusal
 use Rattle.model.specs.Numbers.{listOf}
 use Rattle.model.specs.Answers.{Judgement, passed, refuseIf, orElse}
 use Rattle.model.specs.Faults.{outside}
 use Rattle.model.specs.Codes.{Bits, ue, Read, got, ended, broken, readCode, codeBits, CodeFits, Stands}
-use Rattle.model.specs.Fields.{Field, cpb-cnt-minus1, bit-rate-scale, cpb-size-scale, bit-rate-value-minus1, cpb-size-value-minus1, cbr-flag, delay-length, rowFields, tailFields, fieldsAfterCount, fieldsOf, rowBefore, keepsRule, keeps, Reading, done, atFault, readOn, readFields, fieldsJudged, fieldsBits}
+use Rattle.model.specs.Fields.{Field, cpb-cnt-minus1, bit-rate-scale, cpb-size-scale, bit-rate-value-minus1, cpb-size-value-minus1, cbr-flag, delay-length, rowFields, tailFields, fieldsAfterCount, fieldsOf, rowBefore, keepsRule, keeps, Reading, done, short, atFault, readOn, readFields, fieldsJudged, fieldsBits}
 use Rattle.model.specs.Params.{Params, rowValues, valuesOf, rowsOf, paramsWith, paramsOf, paramsJudged, paramsBits, paramsReading}
 use Rattle.model.proofs.NumbersLaws.{neighbours-all, listOf-at, listOf-append, listOf-getD, append-each}
 use Rattle.model.proofs.AnswersLaws.{refused-not-passed, refuseIf-passed, orElse-passed}
 use Rattle.model.proofs.FaultsLaws.{outside-false}
-use Rattle.model.proofs.CodesLaws.{Binary, AllBits, stands-append, code-back, code-sound, codeBits-all}
+use Rattle.model.proofs.CodesLaws.{Binary, AllBits, stands-append, code-back, code-sound, codeBits-all, Longer, code-cut}
 
 -- a field whose largest value its code can write
 abbrev pub Writable : Field → Type 0
@@ -245,6 +248,25 @@ params-sizes p ok i j h g =
     (λ l. neighbours-all (λ a b. b ≤ a) (λ a b c h g. le-trans g h) (sizeAt p) (p .cpb-cnt) (λ i h. rows-rules p ok i h .1) i j l g)
     (eq-or-lt-of-le h)
 
+-- the first of some values that pass is at most its field's largest, and the others pass
+judged-most : (f : Field) (fs : List Field) (earlier : List ℕ) (v : ℕ) (values : List ℕ) → fieldsJudged (f ∷ fs) earlier (v ∷ values) ≡ passed
+    → (v ≤ f .most) × (fieldsJudged fs (earlier ++ (v ∷ [])) values ≡ passed)
+judged-most f fs earlier v values ok =
+    let (kept, rest) = judged-cons f fs earlier v values .0 ok in
+    (keeps-parts f earlier v kept .0, rest)
+
+pub params-scales : (p : Params) → paramsJudged p ≡ passed → (p .bit-rate-scale < 2 ^ scaleWidth) × (p .cpb-size-scale < 2 ^ scaleWidth)
+params-scales p ok =
+    let (_, scales) = judged-most _ _ _ _ _ (before-passes p ok 0 zero-le) in
+    let (rate, behind) = judged-most _ _ _ _ _ scales in
+    (suc-le-suc rate, suc-le-suc (judged-most _ _ _ _ _ behind .0))
+
+pub params-values : (p : Params) → paramsJudged p ≡ passed → (i : ℕ) → i < p .cpb-cnt
+    → (getD (p .bit-rate-value-minus1) i 0 ≤ valueMax) × (getD (p .cpb-size-value-minus1) i 0 ≤ valueMax)
+params-values p ok i h =
+    let (rate, behind) = judged-most _ _ _ _ _ (row-passes p i (before-passes p ok (suc i) h) .1) in
+    (rate, judged-most _ _ _ _ _ behind .0)
+
 pub params-back : (x : Bits) (params : Params) (p : ℕ) → paramsJudged params ≡ passed → Stands x p (paramsBits params)
     → paramsReading x p ≡ done (valuesOf params) (p + length (paramsBits params))
 unfolding readFields fieldsBits
@@ -287,3 +309,34 @@ params-sound x p values next hb e =
     let count : length values ≡ 3 + (3 * suc c + 4) = ap length (all .split) ∙ all .count ∙ rw length-append (omega (arith, rowFields-length (suc c))) in
     let back : valuesOf (paramsWith (suc c) values) ≡ all .values = valuesOf-back values (suc c) (omega arith) (omega arith) ∙ rw (← count) (listOf-getD values ∙ all .split) in
     rw (rows, back) (count-passed (suc c) _ .1 (omega arith, omega arith, all .judged), sym (all .split), all .stands, all .behind)
+
+-- a reading is the other, or the bits end inside a field of it
+abbrev pub ShortOr : (a b : Reading) → Type 0
+ShortOr a b = ((q : ℕ) × (a ≡ short q)) ⊎ (a ≡ b)
+
+cond-cut : (kept : Bool) (a b fault : Reading) → ShortOr a b → ShortOr (cond kept a fault) (cond kept b fault)
+cond-cut true a b fault h = h
+cond-cut false a b fault h = inr refl
+
+same-cut : (f : Field) (earlier : List ℕ) (p : ℕ) (r : Read) (a b : (v next : ℕ) → Reading) → ((v next : ℕ) → ShortOr (a v next) (b v next))
+    → ShortOr (readOn f earlier p r a) (readOn f earlier p r b)
+same-cut f earlier p (got v next) a b on = cond-cut (keeps f earlier v) (a v next) (b v next) _ (on v next)
+same-cut f earlier p (ended q) a b on = inr refl
+same-cut f earlier p (broken q) a b on = inr refl
+
+-- so it is after one field where it is after its code
+on-cut : (f : Field) (earlier : List ℕ) (p : ℕ) (r s : Read) (a b : (v next : ℕ) → Reading) → ((q : ℕ) × (r ≡ ended q)) ⊎ (r ≡ s)
+    → ((v next : ℕ) → ShortOr (a v next) (b v next)) → ShortOr (readOn f earlier p r a) (readOn f earlier p s b)
+on-cut f earlier p r s a b (inl (q, e)) on = inl (q, rw e)
+on-cut f earlier p r s a b (inr e) on = rw e (same-cut f earlier p s a b on)
+
+fields-cut : (x y : Bits) (fs : List Field) (earlier : List ℕ) (p : ℕ) → Binary y → Longer x y
+    → ShortOr (readFields y fs earlier p) (readFields x fs earlier p)
+unfolding readFields
+fields-cut x y [] earlier p hb l = inr refl
+fields-cut x y (f ∷ fs) earlier p hb l =
+    on-cut f earlier p _ _ _ _ (code-cut x y (f .code) p hb l) (λ v next. fields-cut x y fs (earlier ++ (v ∷ [])) next hb l)
+
+pub params-cut : (x y : Bits) (p : ℕ) → Binary y → Longer x y → ShortOr (paramsReading y p) (paramsReading x p)
+params-cut x y p hb l =
+    on-cut cpb-cnt-minus1 [] p _ _ _ _ (code-cut x y ue p hb l) (λ c next. fields-cut x y (fieldsAfterCount (suc c)) (c ∷ []) next hb l)

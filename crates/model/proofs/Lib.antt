@@ -9,6 +9,7 @@ pub mod LookupLaws
 pub mod CodesLaws
 pub mod PutBitsLaws
 pub mod FieldsLaws
+pub mod Undoing
 pub mod PanelLaws
 pub mod Demand2
 pub mod Demand3

@@ -6,16 +6,17 @@
 --     putBits-keeps     every other bit stays
 --     putBits-byte      bytes stay bytes
 --     putBits-stands    stored bits stand in the bits of the bytes, where there is room
+--     putBits-same      bits that stand there already, stored, leave the bytes as they are
 -- Assumes nothing.
 use Prim.Native.Nat.{ℕ, zero, suc, _+_, _-_, _*_, _/_, _%_, _^_, _≤_, _<_, suc-le-suc}
-use native.Mathlib.Nat.{le-of-suc-le-suc, zero-lt-suc, suc-add, add-zero, add-suc, mod-lt, div-add-mod', div-lt-iff-lt-mul}
+use native.Mathlib.Nat.{le-of-suc-le-suc, zero-lt-suc, suc-add, add-zero, add-suc, mod-lt, div-add-mod', div-lt-iff-lt-mul, add-sub-cancel}
 use native.Mathlib.Decide.{decLe}
 use native.Mathlib.Omega.{arith}
 use mathlib.Core.Path.{_≡_, refl, ap, _∙_}
 use mathlib.Core.Logic.{_⊎_, inl, inr, ⊎-elim, _≢_}
 use mathlib.Core.List.{List, [], _∷_, _++_}
 use lib.ListN.{length, getD, set, length-set}
-use lib.Seq.{getD-set-same}
+use lib.Seq.{getD-set-same, set-getD}
 use lib.Pow.{pow-pos, pow-add, split, high, low, field, mod-mod-pow, shr-shr, shr-lt}
 use Rattle.model.specs.Codes.{bitAt, bitsOf, Stands, putBit, putBits}
 use Rattle.model.proofs.CodesLaws.{AllBits}
@@ -117,3 +118,17 @@ putBits-byte bytes p (b ∷ bits) hb h i =
 pub putBits-stands : (bytes : List ℕ) (p : ℕ) (bits : List ℕ) → AllBits bits → p + length bits ≤ bitsOf bytes .end → Stands (bitsOf (putBits bytes p bits)) p bits
 putBits-stands bytes p bits hb h =
     record { within = rw putBits-length h; same = λ i g. putBits-at bytes p bits i hb (omega arith) g }
+
+putBit-same : (bytes : List ℕ) (p b : ℕ) → bitAt bytes p ≡ b → putBit bytes p b ≡ bytes
+putBit-same bytes p b e =
+    let byte : ℕ = getD bytes (p / 8) 0 in
+    let kept : byte + b * 2 ^ (7 - p % 8) - bitAt bytes p * 2 ^ (7 - p % 8) ≡ byte = rw e (add-sub-cancel byte (b * 2 ^ (7 - p % 8))) in
+    ap (set bytes (p / 8)) kept ∙ set-getD bytes (p / 8) 0
+
+pub putBits-same : (bytes : List ℕ) (p : ℕ) (bits : List ℕ) → Stands (bitsOf bytes) p bits → putBits bytes p bits ≡ bytes
+unfolding putBits
+putBits-same bytes p [] st = refl
+putBits-same bytes p (b ∷ bits) st =
+    let here : bitAt bytes p ≡ b = rw add-zero at (st .same 0 (zero-lt-suc (length bits))) in
+    let behind : Stands (bitsOf bytes) (suc p) bits = record { within = omega (arith, st .within); same = λ i h. rw (suc-add, ← add-suc) (st .same (suc i) (suc-le-suc h)) } in
+    rw (putBit-same bytes p b here) (putBits-same bytes (suc p) bits behind)

@@ -1,5 +1,5 @@
 -- Demands 2 and 3 as propositions over the definitions. What must be believed of them is read here; they are proved in
--- proofs/DemandsLaws.antt, for lists and numbers of any size. Variable rate only.
+-- proofs/Demand2.antt and proofs/Demand3.antt, for lists and numbers of any size. Variable rate only.
 --     Demand2          a bucket holds the recording exactly when both figures are at least the least
 --     LeastHolds       the least bucket holds
 --     BufferTight      one bit less of buffer is late at some picture, or no bucket

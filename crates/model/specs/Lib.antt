@@ -12,3 +12,4 @@ pub mod Demands
 pub mod Codes
 pub mod Fields
 pub mod Params
+pub mod Undoing

@@ -2,17 +2,23 @@
 --     tell          from what the operation promises of its answer, and which variant that is
 --     tell-schedule the same for a schedule, with its two lists
 --     tell-table    the same for a table, with its two lists
+--     tell-read     the same for reading a record, with the record
+--     tell-write    the same for writing one, with the bytes
 -- Assumes nothing.
 use Prim.Native.Nat.{ℕ}
 use mathlib.Core.Path.{_≡_, sym, ap, _∙_}
 use mathlib.Core.List.{List}
 use Rattle.model.specs.Outcomes as outcomes
+use Rattle.model.specs.Params.{ParamsRead, ParamsWritten}
+use Rattle.hrd.specs.Outcome.{paramsOf, positionOf, paramsRead, paramsWritten}
+use Rattle.hrd.specs.declared.Found.{Found}
+use Rattle.hrd.specs.declared.Position.{Position}
 use Rattle.least.specs.Outcome.{tabledOf, tabled}
 use Rattle.least.specs.declared.Tabled.{Tabled}
 use Rattle.schedule.specs.Outcome.{answerOf, scheduled}
 use Rattle.schedule.specs.declared.Verdict.{Verdict}
 use Rattle.planner.specs.declared.PlannerVerdict.{PlannerVerdict}
-use Rattle.planner.specs.Answers.{judgementAnswer, verdictAnswer, scheduleAnswer, tableAnswer}
+use Rattle.planner.specs.Answers.{judgementAnswer, verdictAnswer, scheduleAnswer, tableAnswer, positionAnswer, writeAnswer}
 
 pub tell : {A B C : Type 0} (f : B → C) (g : A → B) {v w : A} {o : B} → g v ≡ o → v ≡ w → f (g w) ≡ f o
 tell f g promised told = ap (λ v. f (g v)) (sym told) ∙ ap f promised
@@ -24,3 +30,11 @@ tell-schedule v promised told = (told ∙ ap (λ t. verdictAnswer (t .answer)) p
 pub tell-table : {v w : Tabled} {buffers fulls : List ℕ} {t : outcomes.Tabled} → tabled v buffers fulls ≡ t → v ≡ w
     → tableAnswer (judgementAnswer (tabledOf w)) buffers fulls t
 tell-table promised told = (tell judgementAnswer tabledOf (ap (λ t. t .answer) promised) told, ap (λ t. t .buffers) promised, ap (λ t. t .fulls) promised)
+
+pub tell-read : (v : Found) {w : Position} {t : ParamsRead} → paramsRead v ≡ t → v .position ≡ w
+    → (positionAnswer (positionOf w) ≡ positionAnswer (t .answer)) × (paramsOf (v .params) ≡ t .params)
+tell-read v promised told = (tell positionAnswer positionOf (ap (λ t. t .answer) promised) told, ap (λ t. t .params) promised)
+
+pub tell-write : {v w : Position} {bytes : List ℕ} {t : ParamsWritten} → paramsWritten v bytes ≡ t → v ≡ w
+    → writeAnswer (positionAnswer (positionOf w)) bytes t
+tell-write promised told = (tell positionAnswer positionOf (ap (λ t. t .answer) promised) told, ap (λ t. t .bytes) promised)

@@ -6,6 +6,8 @@
 --     secondsAnswer      wait and fill time
 --     readingAnswer      within or over the panel's limit
 --     tableAnswer        a table's answer, with its two lists afterwards
+--     readAnswer         a record read and the next bit position
+--     writeAnswer        the next bit position, with the bytes afterwards
 -- Assumes nothing.
 use Prim.Native.Nat.{ℕ}
 use mathlib.Core.Path.{_≡_}
@@ -14,11 +16,15 @@ use Rattle.model.specs.Arrival.{Bucket, Verdict, holds, late}
 use Rattle.model.specs.Answers.{Answer, given, refused, Judgement}
 use Rattle.model.specs.Outcomes.{Scheduled, Tabled}
 use Rattle.model.specs.Panel.{Seconds, Reading, within, over, zeroSeconds}
+use Rattle.model.specs.Params.{ParamsRead, ParamsWritten}
+use Rattle.hrd.specs.Outcome.{paramsOf}
 use Rattle.planner.specs.declared.PlannerJudgement.{PlannerJudgement}
 use Rattle.planner.specs.declared.PlannerVerdict.{PlannerVerdict}
 use Rattle.planner.specs.declared.PlannerBucket.{PlannerBucket}
 use Rattle.planner.specs.declared.PlannerSeconds.{PlannerSeconds}
 use Rattle.planner.specs.declared.PlannerReading.{PlannerReading}
+use Rattle.planner.specs.declared.PlannerRead.{PlannerRead}
+use Rattle.planner.specs.declared.PlannerPosition.{PlannerPosition}
 
 abbrev pub judgementAnswer : Judgement → PlannerJudgement
 judgementAnswer (given a) = record { kind = 1; number = 0; place = 0 }
@@ -53,3 +59,16 @@ readingAnswer (refused n i) = record { kind = 0; number = n; place = i; wait = z
 
 abbrev pub tableAnswer : PlannerJudgement → (buffers fulls : List ℕ) → Tabled → Type 0
 tableAnswer r buffers fulls t = (r ≡ judgementAnswer (t .answer)) × (buffers ≡ t .buffers) × (fulls ≡ t .fulls)
+
+abbrev pub positionAnswer : Answer ℕ → PlannerPosition
+positionAnswer (given p) = record { kind = 1; number = 0; place = 0; next = p }
+positionAnswer (refused n i) = record { kind = 0; number = n; place = i; next = 0 }
+
+abbrev pub positionRead : PlannerRead → PlannerPosition
+positionRead r = record { kind = r .kind; number = r .number; place = r .place; next = r .next }
+
+abbrev pub readAnswer : PlannerRead → ParamsRead → Type 0
+readAnswer r t = (positionRead r ≡ positionAnswer (t .answer)) × (paramsOf (r .params) ≡ t .params)
+
+abbrev pub writeAnswer : PlannerPosition → (bytes : List ℕ) → ParamsWritten → Type 0
+writeAnswer r bytes t = (r ≡ positionAnswer (t .answer)) × (bytes ≡ t .bytes)

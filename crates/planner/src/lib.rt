@@ -1,5 +1,7 @@
 // The planner for C and Rust: every operation under a name with the prefix `planner_`, with a plain struct for its answer. A
 // refusal has kind 0, its number and its place, and all figures 0. Serves document 01, "What the planner covers".
+use hrd::Params;
+use hrd::Position;
 use least::Figures;
 use least::Tabled;
 use lookup::Found;
@@ -13,8 +15,10 @@ ghost use Rattle.model.specs.Arrival.{bucket};
 ghost use Rattle.model.specs.Lookup.{table};
 ghost use Rattle.model.specs.Outcomes.{judgeOutcome, verdictOutcome, scheduleOutcome, leastOutcome, tableOutcome, lookupOutcome};
 ghost use Rattle.model.specs.Panel.{secondsOutcome, panelOutcome};
+ghost use Rattle.model.specs.Params.{readOutcome, writeOutcome, rowVerdictOutcome};
 ghost use Rattle.schedule.specs.Outcome.{answerOf};
-ghost use Rattle.planner.specs.Answers.{judgementAnswer, verdictAnswer, scheduleAnswer, bucketAnswer, secondsAnswer, readingAnswer, tableAnswer};
+ghost use Rattle.hrd.specs.Outcome.{paramsOf};
+ghost use Rattle.planner.specs.Answers.{judgementAnswer, verdictAnswer, scheduleAnswer, bucketAnswer, secondsAnswer, readingAnswer, tableAnswer, readAnswer, writeAnswer};
 
 // Passed (kind 1), or refused.
 #[repr(C)]
@@ -62,6 +66,25 @@ pub struct PlannerReading {
     pub place: u64,
     pub wait: f64,
     pub limit: f64,
+}
+
+// A record and the next bit position (kind 1), or refused, with the record all zero.
+#[repr(C)]
+pub struct PlannerRead {
+    pub kind: u64,
+    pub number: u64,
+    pub place: u64,
+    pub next: u64,
+    pub params: Params,
+}
+
+// The next bit position (kind 1), or refused.
+#[repr(C)]
+pub struct PlannerPosition {
+    pub kind: u64,
+    pub number: u64,
+    pub place: u64,
+    pub next: u64,
 }
 
 // Judges a recording and its clock.
@@ -304,4 +327,72 @@ pub extern "C" fn planner_panel(rate: u64, buffer: u64, fullness: u64, limit: f6
             limit: 0.0,
         },
     }
+}
+
+// Reads a parameter record at a bit position.
+#[no_mangle]
+pub extern "C" fn planner_read_params(bytes: &[u8], start: u64) -> PlannerRead
+    ensures { λ r. ⌜ readAnswer r (readOutcome (now (bytes .entry)) start) ⌝ }
+{
+    let found = hrd::read_params(bytes, start);
+    let params = found.params;
+    let position = found.position;
+    match position {
+        Position::Next(next) => PlannerRead {
+            kind: 1,
+            number: 0,
+            place: 0,
+            next,
+            params,
+        },
+        Position::Refused(number, place) => PlannerRead {
+            kind: 0,
+            number: number as u64,
+            place: place as u64,
+            next: 0,
+            params,
+        },
+    }
+}
+
+// Writes a parameter record at a bit position.
+#[no_mangle]
+pub extern "C" fn planner_write_params(
+    params: Params,
+    bytes: &mut [u8],
+    start: u64,
+) -> PlannerPosition
+    ensures { λ r. ⌜ writeAnswer r (now (bytes .exit)) (writeOutcome (paramsOf params) (now (bytes .entry)) start) ⌝ }
+{
+    let position = hrd::write_params(params, bytes, start);
+    match position {
+        Position::Next(next) => PlannerPosition {
+            kind: 1,
+            number: 0,
+            place: 0,
+            next,
+        },
+        Position::Refused(number, place) => PlannerPosition {
+            kind: 0,
+            number: number as u64,
+            place: place as u64,
+            next: 0,
+        },
+    }
+}
+
+// The verdict of a start fullness and a row of a parameter record.
+#[no_mangle]
+pub extern "C" fn planner_row_verdict(
+    sizes: &[u64],
+    ticks: &[u64],
+    ts: u64,
+    nu: u64,
+    params: Params,
+    row: usize,
+    fullness: u64,
+) -> PlannerVerdict
+    ensures { λ r. ⌜ r ≡ verdictAnswer (rowVerdictOutcome (recording (now (sizes .entry)) (now (ticks .entry)) ts nu) (paramsOf params) row fullness) ⌝ }
+{
+    verdict_struct(verdict::row_verdict(sizes, ticks, ts, nu, params, row, fullness))
 }

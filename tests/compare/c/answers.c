@@ -1,5 +1,5 @@
 /* Prints every field of an answer of each kind, and of a refusal, of every operation, and what a
- * refused schedule leaves in its lent lists. */
+ * refused schedule and a refused writing of a record leave in their lent lists. */
 #include <inttypes.h>
 #include <stdio.h>
 
@@ -41,6 +41,36 @@ static void reading(const char *name, PlannerReading r) {
     printf(" %g %g\n", r.wait, r.limit);
 }
 
+static void position(const char *name, PlannerPosition r) {
+    head(name, r.kind, r.number, r.place);
+    printf(" %" PRIu64 "\n", r.next);
+}
+
+static void record_read(const char *name, PlannerRead r) {
+    const PlannerParams *p = &r.params;
+    head(name, r.kind, r.number, r.place);
+    printf(" %" PRIu64 " %zu %" PRIu64 " %" PRIu64, r.next, p->cpb_cnt, p->bit_rate_scale,
+           p->cpb_size_scale);
+    printf(" %" PRIu64 " %" PRIu64 " %" PRIu64 " %" PRIu64 "\n",
+           p->initial_cpb_removal_delay_length_minus1, p->cpb_removal_delay_length_minus1,
+           p->dpb_output_delay_length_minus1, p->time_offset_length);
+    for (size_t i = 0; i < 32; i++) {
+        if (i < p->cpb_cnt || p->bit_rate_value_minus1[i] != 0 ||
+            p->cpb_size_value_minus1[i] != 0 || p->cbr_flag[i] != 0) {
+            printf("row %zu %" PRIu64 " %" PRIu64 " %" PRIu64 "\n", i,
+                   p->bit_rate_value_minus1[i], p->cpb_size_value_minus1[i], p->cbr_flag[i]);
+        }
+    }
+}
+
+static void byte_list(const char *name, const uint8_t *bytes, size_t length) {
+    printf("%s", name);
+    for (size_t i = 0; i < length; i++) {
+        printf(" %02x", (unsigned)bytes[i]);
+    }
+    printf("\n");
+}
+
 static void list(const char *name, const uint64_t *entries, size_t length) {
     printf("%s", name);
     for (size_t i = 0; i < length; i++) {
@@ -52,6 +82,8 @@ static void list(const char *name, const uint64_t *entries, size_t length) {
 int main(void) {
     uint64_t first[5] = {7, 7, 7, 7, 7};
     uint64_t second[6] = {8, 8, 8, 8, 8, 8};
+    uint8_t bytes[8] = {0xff, 0xff, 0xff, 0xff, 0xff, 0xff, 0xff, 0xff};
+    PlannerParams params = {2, 1, 3, {4, 5}, {7, 6}, {0, 1}, 23, 22, 21, 24};
 
     judgement("judge", planner_judge(sizes, 4, ticks, 4, 1, 1));
     judgement("judge", planner_judge(sizes, 4, standing, 4, 1, 1));
@@ -80,5 +112,15 @@ int main(void) {
     reading("panel", planner_panel(1000, 20000, 10000, 10.0));
     reading("panel", planner_panel(1000, 20000, 10000, 9.5));
     reading("panel", planner_panel(1000, 20000, 10000, -0.0));
+    position("write_params", planner_write_params(params, bytes, 8, 3));
+    byte_list("bytes", bytes, 8);
+    record_read("read_params", planner_read_params(bytes, 8, 3));
+    record_read("read_params", planner_read_params(bytes, 7, 3));
+    position("write_params", planner_write_params(params, bytes, 7, 4));
+    params.cbr_flag[1] = 2;
+    position("write_params", planner_write_params(params, bytes, 8, 4));
+    byte_list("bytes", bytes, 8);
+    bytes[3] = 0xff;
+    record_read("read_params", planner_read_params(bytes, 8, 3));
     return 0;
 }

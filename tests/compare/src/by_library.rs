@@ -3,8 +3,8 @@
 use crate::cases::{Asked, Case, Record, Rows};
 use crate::outcome::{Answer, Outcome};
 use planner::{
-    judge, least, look_up, panel, schedule, seconds, table, verdict, Bucket, Reading, Recording,
-    Refused, Seconds, Table, Verdict,
+    judge, least, look_up, panel, read_params, schedule, seconds, table, verdict, write_params,
+    Bucket, Reading, Recording, Refused, Seconds, Table, Verdict,
 };
 
 pub fn outcome(case: &Case) -> Outcome {
@@ -29,6 +29,18 @@ pub fn outcome(case: &Case) -> Outcome {
         Case::Panel { asked, limit } => {
             settled(panel(asked.rate, bucket(asked), *limit), read).into()
         }
+        Case::ReadParams { lent } => lent.lend(|bytes| {
+            settled(read_params(bytes, lent.start), |(params, next)| {
+                Answer::Read {
+                    params: Box::new(params),
+                    next,
+                }
+            })
+        }),
+        Case::WriteParams { params, lent } => lent.lend(|bytes| {
+            let result = write_params(params, bytes, lent.start);
+            settled(result, |next| Answer::Written { next })
+        }),
     }
 }
 

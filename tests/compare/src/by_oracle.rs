@@ -2,6 +2,7 @@
 
 use crate::cases::{Asked, Case, Record};
 use crate::outcome::{Answer, Outcome};
+use oracle::bits::{read_params, write_params, Params, Row};
 use oracle::least::{least, table, Least};
 use oracle::lookup::{look_up, Found};
 use oracle::panel::{panel, seconds, Reading, Seconds};
@@ -52,6 +53,18 @@ pub fn outcome(case: &Case) -> Outcome {
             let result = panel(asked.rate, asked.buffer, asked.fullness, *limit);
             settled(result, read).into()
         }
+        Case::ReadParams { lent } => lent.lend(|bytes| {
+            settled(read_params(bytes, lent.start), |(params, next)| {
+                Answer::Read {
+                    params: Box::new(params_from(&params)),
+                    next,
+                }
+            })
+        }),
+        Case::WriteParams { params, lent } => lent.lend(|bytes| {
+            let result = write_params(&params_of(params), bytes, lent.start);
+            settled(result, |next| Answer::Written { next })
+        }),
     }
 }
 
@@ -64,6 +77,46 @@ pub(crate) fn recording(rec: &Record) -> Recording<'_> {
             nu: rec.nu,
         },
     }
+}
+
+/// The record with a row for each that is counted; of a count over 32, one row too many.
+pub(crate) fn params_of(params: &planner::Params) -> Params {
+    let count = params.cpb_cnt.min(params.cbr_flag.len() + 1);
+    let entry = |list: &[u64], k| list.get(k).copied().unwrap_or(0);
+    let row = |k| Row {
+        bit_rate_value_minus1: entry(&params.bit_rate_value_minus1, k),
+        cpb_size_value_minus1: entry(&params.cpb_size_value_minus1, k),
+        cbr_flag: entry(&params.cbr_flag, k),
+    };
+    Params {
+        bit_rate_scale: params.bit_rate_scale,
+        cpb_size_scale: params.cpb_size_scale,
+        rows: (0..count).map(row).collect(),
+        initial_cpb_removal_delay_length_minus1: params.initial_cpb_removal_delay_length_minus1,
+        cpb_removal_delay_length_minus1: params.cpb_removal_delay_length_minus1,
+        dpb_output_delay_length_minus1: params.dpb_output_delay_length_minus1,
+        time_offset_length: params.time_offset_length,
+    }
+}
+
+/// The record as the library has it, with zeros after its rows.
+fn params_from(params: &Params) -> planner::Params {
+    let mut fixed = planner::Params {
+        cpb_cnt: params.rows.len(),
+        bit_rate_scale: params.bit_rate_scale,
+        cpb_size_scale: params.cpb_size_scale,
+        initial_cpb_removal_delay_length_minus1: params.initial_cpb_removal_delay_length_minus1,
+        cpb_removal_delay_length_minus1: params.cpb_removal_delay_length_minus1,
+        dpb_output_delay_length_minus1: params.dpb_output_delay_length_minus1,
+        time_offset_length: params.time_offset_length,
+        ..planner::Params::default()
+    };
+    for (k, row) in params.rows.iter().enumerate() {
+        fixed.bit_rate_value_minus1[k] = row.bit_rate_value_minus1;
+        fixed.cpb_size_value_minus1[k] = row.cpb_size_value_minus1;
+        fixed.cbr_flag[k] = row.cbr_flag;
+    }
+    fixed
 }
 
 fn settled<T>(result: Result<T, Refused>, answer: impl FnOnce(T) -> Answer) -> Answer {

@@ -4,9 +4,19 @@ use crate::damage::damage;
 use crate::draws;
 use crate::outcome::{Answer, Outcome};
 use oracle::xorshift::XorShift;
+use planner::Params;
 
-pub const OPERATIONS: [&str; 8] = [
-    "judge", "verdict", "schedule", "least", "table", "look_up", "seconds", "panel",
+pub const OPERATIONS: [&str; 10] = [
+    "judge",
+    "verdict",
+    "schedule",
+    "least",
+    "table",
+    "look_up",
+    "seconds",
+    "panel",
+    "read_params",
+    "write_params",
 ];
 
 /// Entries on either side of a lent list that the operation is not lent.
@@ -45,6 +55,13 @@ pub enum Case {
     Panel {
         asked: Asked,
         limit: f64,
+    },
+    ReadParams {
+        lent: Bytes,
+    },
+    WriteParams {
+        params: Box<Params>,
+        lent: Bytes,
     },
 }
 
@@ -95,6 +112,26 @@ impl Lent {
     }
 }
 
+/// A byte list with its margins; the operation is lent what lies between these, and its bits are
+/// counted from there.
+#[derive(Debug)]
+pub struct Bytes {
+    pub start: u64,
+    pub list: Vec<u8>,
+}
+
+impl Bytes {
+    pub(crate) fn lend(&self, ask: impl FnOnce(&mut [u8]) -> Answer) -> Outcome {
+        let mut list = self.list.clone();
+        let end = list.len() - MARGIN;
+        let answer = ask(&mut list[MARGIN..end]);
+        Outcome {
+            answer,
+            lent: vec![list.into_iter().map(u64::from).collect()],
+        }
+    }
+}
+
 /// The operation that a case of this number is of, as an entry of `OPERATIONS`.
 pub fn operation(number: u64) -> usize {
     (number % OPERATIONS.len() as u64) as usize
@@ -123,7 +160,8 @@ fn stream(seed: u64, number: u64) -> XorShift {
     XorShift::new(state.max(1))
 }
 
-/// A case without a fault, but for the limit of a panel, which may be any double.
+/// A case without a fault, but for the limit of a panel, which may be any double, and the bytes of
+/// a record to read, which may be any bytes.
 fn valid(random: &mut XorShift, operation: &str) -> Case {
     match operation {
         "judge" => Case::Judge {
@@ -163,6 +201,14 @@ fn valid(random: &mut XorShift, operation: &str) -> Case {
             let asked = draws::asked(random);
             let limit = draws::limit(random, &asked);
             Case::Panel { asked, limit }
+        }
+        "read_params" => Case::ReadParams {
+            lent: draws::record_bytes(random),
+        },
+        "write_params" => {
+            let params = Box::new(draws::params(random));
+            let lent = draws::bytes_for(random, &params);
+            Case::WriteParams { params, lent }
         }
         other => unreachable!("{other} is no operation"),
     }

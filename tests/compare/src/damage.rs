@@ -1,12 +1,14 @@
 //! Damage to a case: one value or list of it put out of its range, so that the call is refused
 //! unless the damage happens to be harmless.
 
-use crate::cases::{Asked, Case, Lent, Record, Rows, MARGIN};
+use crate::cases::{Asked, Bytes, Case, Lent, Record, Rows, MARGIN};
 use crate::draws::{one_in, pick, rising};
 use oracle::limits::{
-    BUFFER_MAX, NU_MAX, PICTURES_MAX, RATES_MAX, RATE_MAX, SIZE_MAX, SPAN_MAX, TS_MAX,
+    BUFFER_MAX, LENGTH_MAX, NU_MAX, PICTURES_MAX, RATES_MAX, RATE_MAX, RECORD_ROWS_MAX, SCALE_MAX,
+    SIZE_MAX, SPAN_MAX, TS_MAX, VALUE_MINUS1_MAX,
 };
 use oracle::xorshift::XorShift;
+use planner::Params;
 
 pub fn damage(random: &mut XorShift, case: &mut Case) {
     let first = one_in(random, 2);
@@ -35,6 +37,10 @@ pub fn damage(random: &mut XorShift, case: &mut Case) {
         Case::LookUp { rate, .. } if one_in(random, 6) => *rate = outside(random, RATE_MAX),
         Case::LookUp { rows, .. } => table(random, rows),
         Case::Seconds { asked } | Case::Panel { asked, .. } => bucket(random, asked),
+        Case::ReadParams { lent } if first => bits(random, lent),
+        Case::ReadParams { lent } => bytes(random, lent),
+        Case::WriteParams { params, .. } if first => fields(random, params),
+        Case::WriteParams { lent, .. } => bytes(random, lent),
     }
 }
 
@@ -155,5 +161,96 @@ fn table(random: &mut XorShift, rows: &mut Rows) {
             }
         }
         _ => rate_list(random, &mut rows.rates),
+    }
+}
+
+/// Some bits turned, near the start or anywhere.
+fn bits(random: &mut XorShift, lent: &mut Bytes) {
+    let end = 8 * (lent.list.len() - 2 * MARGIN) as u64;
+    let Some(last) = end.checked_sub(1) else {
+        return;
+    };
+    for _ in 0..random.range(1, 3) {
+        let near = lent.start.saturating_add(random.range(0, 40));
+        let any = random.range(0, last);
+        let position = pick(random, &[near.min(last), any]);
+        lent.list[MARGIN + (position / 8) as usize] ^= 0x80 >> (position % 8);
+    }
+}
+
+/// A list that is cut, or a start at the end, past it or far past it.
+fn bytes(random: &mut XorShift, lent: &mut Bytes) {
+    let length = lent.list.len() - 2 * MARGIN;
+    let end = 8 * length as u64;
+    match random.range(0, 5) {
+        0 => lent.start = end,
+        1 => lent.start = end.saturating_sub(random.range(1, 40)),
+        2 => lent.start = end + random.range(1, 40),
+        3 => {
+            let far = u64::MAX - random.range(0, 40);
+            lent.start = pick(random, &[far, u64::MAX, 1 << 32, (1 << 32) - 1]);
+        }
+        4 => {
+            let shorter = random.range(0, length as u64) as usize;
+            lent.list.truncate(shorter + 2 * MARGIN);
+        }
+        _ => {
+            let shorter = length.saturating_sub(random.range(1, 4) as usize);
+            lent.list.truncate(shorter + 2 * MARGIN);
+        }
+    }
+}
+
+fn above(random: &mut XorShift, largest: u64) -> u64 {
+    pick(random, &[largest + 1, u64::MAX])
+}
+
+fn fields(random: &mut XorShift, params: &mut Params) {
+    let rows = params.cpb_cnt.min(RECORD_ROWS_MAX as usize);
+    match random.range(0, 9) {
+        0 => {
+            let over = RECORD_ROWS_MAX as usize + 1;
+            params.cpb_cnt = pick(random, &[0, over, usize::MAX]);
+        }
+        1 => params.bit_rate_scale = above(random, SCALE_MAX),
+        2 => params.cpb_size_scale = above(random, SCALE_MAX),
+        3 => length_field(random, params),
+        4 => {
+            if let Some(k) = place(random, &params.cbr_flag[..rows]) {
+                params.cbr_flag[k] = above(random, 1);
+            }
+        }
+        5 => {
+            if let Some(k) = place(random, &params.bit_rate_value_minus1[..rows]) {
+                params.bit_rate_value_minus1[k] = above(random, VALUE_MINUS1_MAX);
+            }
+        }
+        6 => {
+            if let Some(k) = place(random, &params.cpb_size_value_minus1[..rows]) {
+                params.cpb_size_value_minus1[k] = above(random, VALUE_MINUS1_MAX);
+            }
+        }
+        7 | 8 => {
+            if let Some(k) = place(random, &params.bit_rate_value_minus1[..rows]) {
+                let before = params.bit_rate_value_minus1[k.saturating_sub(1)];
+                params.bit_rate_value_minus1[k] = pick(random, &[before, before.saturating_sub(1)]);
+            }
+        }
+        _ => {
+            if let Some(k) = place(random, &params.cpb_size_value_minus1[..rows]) {
+                let before = params.cpb_size_value_minus1[k.saturating_sub(1)];
+                params.cpb_size_value_minus1[k] = before.saturating_add(1);
+            }
+        }
+    }
+}
+
+fn length_field(random: &mut XorShift, params: &mut Params) {
+    let value = above(random, LENGTH_MAX);
+    match random.range(0, 3) {
+        0 => params.initial_cpb_removal_delay_length_minus1 = value,
+        1 => params.cpb_removal_delay_length_minus1 = value,
+        2 => params.dpb_output_delay_length_minus1 = value,
+        _ => params.time_offset_length = value,
     }
 }

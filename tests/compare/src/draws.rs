@@ -1,13 +1,16 @@
 //! Draws of values in their ranges, the ends of the ranges often among them.
 
-use crate::by_oracle::recording;
-use crate::cases::{Asked, Lent, Record, Rows, MARGIN};
+use crate::by_oracle::{params_of, recording};
+use crate::cases::{Asked, Bytes, Lent, Record, Rows, MARGIN};
+use oracle::bits::write_params;
 use oracle::least::least;
 use oracle::limits::{
-    BUFFER_MAX, NU_MAX, PICTURES_MAX, RATES_MAX, RATE_MAX, SIZE_MAX, SPAN_MAX, TS_MAX,
+    BUFFER_MAX, LENGTH_MAX, NU_MAX, PICTURES_MAX, RATES_MAX, RATE_MAX, RECORD_ROWS_MAX, SCALE_MAX,
+    SIZE_MAX, SPAN_MAX, TS_MAX, VALUE_MINUS1_MAX,
 };
 use oracle::panel::seconds;
 use oracle::xorshift::XorShift;
+use planner::Params;
 use std::collections::BTreeSet;
 
 /// Recordings up to this length are planned by the oracle while a case is drawn.
@@ -236,4 +239,101 @@ pub fn limit(random: &mut XorShift, asked: &Asked) -> f64 {
     let nearby = [wait, wait.next_down(), wait.next_up(), wait * fraction];
     let nearby = pick(random, &nearby);
     pick(random, &[nearby, nearby, nearby, special, any])
+}
+
+/// From 0 to `largest`, both ends often.
+fn from_zero(random: &mut XorShift, largest: u64) -> u64 {
+    let any = random.range(0, largest);
+    pick(random, &[0, any, largest])
+}
+
+/// A value of a row, the ends of its range often.
+fn value(random: &mut XorShift) -> u64 {
+    up_to(random, VALUE_MINUS1_MAX + 1) - 1
+}
+
+/// A record, with anything in the entries after its rows.
+pub fn params(random: &mut XorShift) -> Params {
+    let any = random.range(1, RECORD_ROWS_MAX);
+    let few = random.range(1, 4);
+    let count = pick(random, &[few, few, any, RECORD_ROWS_MAX]) as usize;
+    let mut params = Params {
+        cpb_cnt: count,
+        bit_rate_scale: from_zero(random, SCALE_MAX),
+        cpb_size_scale: from_zero(random, SCALE_MAX),
+        bit_rate_value_minus1: std::array::from_fn(|_| random.draw()),
+        cpb_size_value_minus1: std::array::from_fn(|_| random.draw()),
+        cbr_flag: std::array::from_fn(|_| random.draw()),
+        initial_cpb_removal_delay_length_minus1: from_zero(random, LENGTH_MAX),
+        cpb_removal_delay_length_minus1: from_zero(random, LENGTH_MAX),
+        dpb_output_delay_length_minus1: from_zero(random, LENGTH_MAX),
+        time_offset_length: from_zero(random, LENGTH_MAX),
+    };
+    let mut rates = BTreeSet::new();
+    if count >= 2 && one_in(random, 4) {
+        rates.extend([0, VALUE_MINUS1_MAX]);
+    }
+    while rates.len() < count {
+        rates.insert(value(random));
+    }
+    let mut sizes: Vec<u64> = if one_in(random, 4) {
+        vec![value(random); count]
+    } else {
+        (0..count).map(|_| value(random)).collect()
+    };
+    sizes.sort_by(|a, b| b.cmp(a));
+    for (k, rate) in rates.into_iter().enumerate() {
+        params.bit_rate_value_minus1[k] = rate;
+        params.cpb_size_value_minus1[k] = sizes[k];
+        params.cbr_flag[k] = random.range(0, 1);
+    }
+    params
+}
+
+fn any_bytes(random: &mut XorShift, length: usize) -> Vec<u8> {
+    (0..length).map(|_| random.draw() as u8).collect()
+}
+
+/// Bytes with room for a record from any bit offset on, and some before and after it.
+pub fn bytes_for(random: &mut XorShift, params: &Params) -> Bytes {
+    let start = random.range(0, 31);
+    let mut room = vec![0; 600];
+    let next = write_params(&params_of(params), &mut room, start)
+        .expect("a drawn record has no fault and fits");
+    let after = random.range(0, 3);
+    let length = (next.div_ceil(8) + after) as usize;
+    Bytes {
+        start,
+        list: any_bytes(random, MARGIN + length + MARGIN),
+    }
+}
+
+/// The bytes of a record, or any bytes, half of these with few ones or none.
+pub fn record_bytes(random: &mut XorShift) -> Bytes {
+    if one_in(random, 4) {
+        let (short, any) = (random.range(0, 8), random.range(0, 40));
+        let length = pick(random, &[short, any]) as usize;
+        let mut list = any_bytes(random, MARGIN + length + MARGIN);
+        if one_in(random, 2) {
+            let any = random.draw();
+            let rare = pick(random, &[0, any]);
+            for byte in &mut list {
+                *byte &= (rare & random.draw() & random.draw()) as u8;
+            }
+        }
+        return Bytes {
+            start: random.range(0, 31),
+            list,
+        };
+    }
+    let params = params(random);
+    let mut bytes = bytes_for(random, &params);
+    let end = bytes.list.len() - MARGIN;
+    write_params(
+        &params_of(&params),
+        &mut bytes.list[MARGIN..end],
+        bytes.start,
+    )
+    .expect("the drawn bytes have room");
+    bytes
 }

@@ -1,7 +1,9 @@
 //! What a case comes to: the answer, doubles by their bits, and the lent lists with the entries
 //! around them.
 
-#[derive(Clone, Copy, Debug, PartialEq, Eq)]
+use planner::Params;
+
+#[derive(Clone, Debug, PartialEq, Eq)]
 pub enum Answer {
     Refused { number: u8, place: u64 },
     Passed,
@@ -11,6 +13,8 @@ pub enum Answer {
     Seconds { wait: u64, fill: u64 },
     Within { wait: u64 },
     Over { wait: u64, limit: u64 },
+    Read { params: Box<Params>, next: u64 },
+    Written { next: u64 },
 }
 
 #[derive(Debug, PartialEq, Eq)]

@@ -7,10 +7,10 @@ use compare::{by_library, by_oracle};
 use std::collections::BTreeSet;
 
 const SEED: u64 = 20;
-const CASES: u64 = 160_000;
+const CASES: u64 = 200_000;
 
 /// What document 01, "When the planner says no", and the operation's own answers come to.
-const MET: [(&str, &[&str], &[u8]); 8] = [
+const MET: [(&str, &[&str], &[u8]); 10] = [
     ("judge", &["passed"], &[1, 2, 3, 4, 5]),
     ("verdict", &["holds", "late"], &[1, 2, 3, 4, 5, 6, 7]),
     ("schedule", &["holds", "late"], &[1, 2, 3, 4, 5, 6, 7, 8]),
@@ -19,6 +19,8 @@ const MET: [(&str, &[&str], &[u8]); 8] = [
     ("look_up", &["bucket"], &[2, 3, 6, 7]),
     ("seconds", &["seconds"], &[6, 7]),
     ("panel", &["within", "over"], &[6, 7, 13]),
+    ("read_params", &["read"], &[9, 10]),
+    ("write_params", &["written"], &[8, 10]),
 ];
 
 fn name(answer: Answer) -> String {
@@ -31,6 +33,8 @@ fn name(answer: Answer) -> String {
         Answer::Seconds { .. } => "seconds",
         Answer::Within { .. } => "within",
         Answer::Over { .. } => "over",
+        Answer::Read { .. } => "read",
+        Answer::Written { .. } => "written",
     };
     kind.to_string()
 }
