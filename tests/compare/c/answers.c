@@ -117,6 +117,10 @@ int main(void) {
     record_read("read_params", planner_read_params(bytes, 8, 3));
     record_read("read_params", planner_read_params(bytes, 7, 3));
     position("write_params", planner_write_params(params, bytes, 7, 4));
+    verdict("row_verdict", planner_row_verdict(sizes, 4, ticks, 4, 1, 1, params, 0, 500));
+    verdict("row_verdict", planner_row_verdict(sizes, 4, ticks, 4, 1, 1, params, 0, 99));
+    verdict("row_verdict", planner_row_verdict(sizes, 4, ticks, 4, 1, 1, params, 1, 500));
+    verdict("row_verdict", planner_row_verdict(sizes, 4, ticks, 4, 1, 1, params, 2, 500));
     params.cbr_flag[1] = 2;
     position("write_params", planner_write_params(params, bytes, 8, 4));
     byte_list("bytes", bytes, 8);

@@ -3,8 +3,8 @@
 use crate::cases::{Asked, Case, Record, Rows};
 use crate::outcome::{Answer, Outcome};
 use planner::{
-    judge, least, look_up, panel, read_params, schedule, seconds, table, verdict, write_params,
-    Bucket, Reading, Recording, Refused, Seconds, Table, Verdict,
+    judge, least, look_up, panel, read_params, row_verdict, schedule, seconds, table, verdict,
+    write_params, Bucket, Reading, Recording, Refused, Seconds, Table, Verdict,
 };
 
 pub fn outcome(case: &Case) -> Outcome {
@@ -41,6 +41,12 @@ pub fn outcome(case: &Case) -> Outcome {
             let result = write_params(params, bytes, lent.start);
             settled(result, |next| Answer::Written { next })
         }),
+        Case::RowVerdict {
+            rec,
+            params,
+            row,
+            fullness,
+        } => settled(row_verdict(&recording(rec), params, *row, *fullness), held).into(),
     }
 }
 

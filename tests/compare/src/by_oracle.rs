@@ -2,7 +2,7 @@
 
 use crate::cases::{Asked, Case, Record};
 use crate::outcome::{Answer, Outcome};
-use oracle::bits::{read_params, write_params, Params, Row};
+use oracle::bits::{read_params, row_verdict, write_params, Params, Row};
 use oracle::least::{least, table, Least};
 use oracle::lookup::{look_up, Found};
 use oracle::panel::{panel, seconds, Reading, Seconds};
@@ -65,6 +65,15 @@ pub fn outcome(case: &Case) -> Outcome {
             let result = write_params(&params_of(params), bytes, lent.start);
             settled(result, |next| Answer::Written { next })
         }),
+        Case::RowVerdict {
+            rec,
+            params,
+            row,
+            fullness,
+        } => {
+            let (rec, params) = (recording(rec), params_of(params));
+            settled(row_verdict(&rec, &params, *row as u64, *fullness), held).into()
+        }
     }
 }
 

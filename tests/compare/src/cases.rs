@@ -6,7 +6,7 @@ use crate::outcome::{Answer, Outcome};
 use oracle::xorshift::XorShift;
 use planner::Params;
 
-pub const OPERATIONS: [&str; 10] = [
+pub const OPERATIONS: [&str; 11] = [
     "judge",
     "verdict",
     "schedule",
@@ -17,6 +17,7 @@ pub const OPERATIONS: [&str; 10] = [
     "panel",
     "read_params",
     "write_params",
+    "row_verdict",
 ];
 
 /// Entries on either side of a lent list that the operation is not lent.
@@ -62,6 +63,12 @@ pub enum Case {
     WriteParams {
         params: Box<Params>,
         lent: Bytes,
+    },
+    RowVerdict {
+        rec: Record,
+        params: Box<Params>,
+        row: usize,
+        fullness: u64,
     },
 }
 
@@ -209,6 +216,19 @@ fn valid(random: &mut XorShift, operation: &str) -> Case {
             let params = Box::new(draws::params(random));
             let lent = draws::bytes_for(random, &params);
             Case::WriteParams { params, lent }
+        }
+        "row_verdict" => {
+            let rec = draws::record(random, 200);
+            let asked = draws::asked_of(random, &rec);
+            let params = Box::new(draws::params_for(random, &asked));
+            let row = random.range(0, params.cpb_cnt as u64 - 1) as usize;
+            let fullness = asked.fullness;
+            Case::RowVerdict {
+                rec,
+                params,
+                row,
+                fullness,
+            }
         }
         other => unreachable!("{other} is no operation"),
     }

@@ -41,6 +41,17 @@ pub fn damage(random: &mut XorShift, case: &mut Case) {
         Case::ReadParams { lent } => bytes(random, lent),
         Case::WriteParams { params, .. } if first => fields(random, params),
         Case::WriteParams { lent, .. } => bytes(random, lent),
+        Case::RowVerdict { rec, .. } if first => record(random, rec),
+        Case::RowVerdict {
+            params,
+            row,
+            fullness,
+            ..
+        } => match random.range(0, 2) {
+            0 => fields(random, params),
+            1 => *row = pick(random, &[params.cpb_cnt, usize::MAX]),
+            _ => *fullness = outside(random, BUFFER_MAX),
+        },
     }
 }
 

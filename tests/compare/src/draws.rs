@@ -290,6 +290,22 @@ pub fn params(random: &mut XorShift) -> Params {
     params
 }
 
+/// A record of one row with the least rate and size of a row that are no less than those asked; or
+/// any record, most of whose rows no bucket can be.
+pub fn params_for(random: &mut XorShift, asked: &Asked) -> Params {
+    let mut params = params(random);
+    if one_in(random, 4) {
+        return params;
+    }
+    params.cpb_cnt = 1;
+    params.bit_rate_scale = 0;
+    params.cpb_size_scale = 0;
+    params.bit_rate_value_minus1[0] = asked.rate.div_ceil(64) - 1;
+    params.cpb_size_value_minus1[0] = (asked.buffer.div_ceil(16) - 1).min(VALUE_MINUS1_MAX);
+    params.cbr_flag[0] = one_in(random, 4) as u64;
+    params
+}
+
 fn any_bytes(random: &mut XorShift, length: usize) -> Vec<u8> {
     (0..length).map(|_| random.draw() as u8).collect()
 }

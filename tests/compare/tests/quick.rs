@@ -7,10 +7,10 @@ use compare::{by_library, by_oracle};
 use std::collections::BTreeSet;
 
 const SEED: u64 = 20;
-const CASES: u64 = 200_000;
+const CASES: u64 = 220_000;
 
 /// What document 01, "When the planner says no", and the operation's own answers come to.
-const MET: [(&str, &[&str], &[u8]); 10] = [
+const MET: [(&str, &[&str], &[u8]); 11] = [
     ("judge", &["passed"], &[1, 2, 3, 4, 5]),
     ("verdict", &["holds", "late"], &[1, 2, 3, 4, 5, 6, 7]),
     ("schedule", &["holds", "late"], &[1, 2, 3, 4, 5, 6, 7, 8]),
@@ -21,6 +21,11 @@ const MET: [(&str, &[&str], &[u8]); 10] = [
     ("panel", &["within", "over"], &[6, 7, 13]),
     ("read_params", &["read"], &[9, 10]),
     ("write_params", &["written"], &[8, 10]),
+    (
+        "row_verdict",
+        &["holds", "late"],
+        &[1, 2, 3, 4, 5, 6, 7, 10, 11],
+    ),
 ];
 
 fn name(answer: Answer) -> String {
