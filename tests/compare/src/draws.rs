@@ -236,7 +236,9 @@ pub fn limit(random: &mut XorShift, asked: &Asked) -> f64 {
         f64::MIN,
     ];
     let special = pick(random, &special);
-    let nearby = [wait, wait.next_down(), wait.next_up(), wait * fraction];
+    let below = f64::from_bits(wait.to_bits() - 1);
+    let above = f64::from_bits(wait.to_bits() + 1);
+    let nearby = [wait, below, above, wait * fraction];
     let nearby = pick(random, &nearby);
     pick(random, &[nearby, nearby, nearby, special, any])
 }

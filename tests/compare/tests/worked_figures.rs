@@ -177,7 +177,7 @@ fn seconds_of_ten_thousand_bits() {
     };
     assert_eq!(seconds(1000, ten), Ok(expected));
     assert_eq!(panel(1000, ten, 10.0), Ok(Reading::Within(10.0)));
-    let below = 10.0_f64.next_down();
+    let below = f64::from_bits(10.0_f64.to_bits() - 1);
     assert_eq!(panel(1000, ten, below), Ok(Reading::Over(10.0, below)));
     for no_limit in [0.0, -0.0, -1.0, f64::NAN, f64::INFINITY] {
         assert_eq!(panel(1000, ten, no_limit), refused(13, 0));

@@ -70,10 +70,11 @@ fn limits_of_the_panel() {
         assert_eq!(panel(3, 2, 1, limit), refuse(13, 0));
     }
     let third = 1.0_f64 / 3.0;
-    for limit in [least_subnormal, f64::MIN_POSITIVE, third.next_down()] {
+    let (below, above) = (third.to_bits() - 1, third.to_bits() + 1);
+    for limit in [least_subnormal, f64::MIN_POSITIVE, f64::from_bits(below)] {
         assert_eq!(panel(3, 2, 1, limit), Ok(Reading::Over(third, limit)));
     }
-    for limit in [third, third.next_up(), f64::MAX] {
+    for limit in [third, f64::from_bits(above), f64::MAX] {
         assert_eq!(panel(3, 2, 1, limit), Ok(Reading::Within(third)));
     }
 }

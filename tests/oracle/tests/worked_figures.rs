@@ -168,7 +168,7 @@ fn seconds_of_ten_thousand_bits() {
     };
     assert_eq!(seconds(1000, 10000, 10000), Ok(expected));
     assert_eq!(panel(1000, 10000, 10000, 10.0), Ok(Reading::Within(10.0)));
-    let below = 10.0_f64.next_down();
+    let below = f64::from_bits(10.0_f64.to_bits() - 1);
     let over = Reading::Over(10.0, below);
     assert_eq!(panel(1000, 10000, 10000, below), Ok(over));
 }
