@@ -2,7 +2,7 @@
 --     refuseIf-passed      a test refuses exactly when it is true
 --     orElse-passed        of two judgements both pass, or the first refusal is given
 --     test-false, test-true, skip, here    how the first refusal is found, judgement by judgement
---     answer-given, answer-refused, answer-passed    an operation's answer, from its judgement and back
+--     answer-given, answer-refused, answer-passed, answer-refuses    an operation's answer, from its judgement and back
 --     first-passed         several judgements pass exactly when each does
 --     first-append         of two lists the second is judged where the first passes
 --     firstFault-passed    a list passes exactly when no place is at fault
@@ -67,6 +67,10 @@ answer-refused x e = rw e
 pub answer-passed : {A : Type 0} (j : Judgement) (x y : A) → answerWith j x ≡ given y → (j ≡ passed) × (x ≡ y)
 answer-passed (given tt) x y e = (refl, cc)
 answer-passed (refused n i) x y e = let z : _≡_ {A = ℕ} 0 1 = cc in absurd (omega arith)
+
+pub answer-refuses : {A : Type 0} (j : Judgement) (x : A) (n i : ℕ) → answerWith j x ≡ refused n i → j ≡ refused n i
+answer-refuses (given tt) x n i e = let z : _≡_ {A = ℕ} 0 1 = cc in absurd (omega arith)
+answer-refuses (refused m k) x n i e = cc
 
 -- each of them passes
 abbrev pub AllPassed : List Judgement → Type 0

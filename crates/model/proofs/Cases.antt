@@ -1,25 +1,29 @@
--- The starred cases of document 01, "Worked figures", computed from the definitions: one list, one claim.
+-- The starred cases of document 01, "Worked figures", computed from the definitions: one list, one claim. And its printed table.
 --     Figure      what a case shows: numbers, or the answer of an operation
 --     computed    every starred case, in the document's order
 --     expected    what the document says of each
 --     starred     they are equal
+--     sheetBytes, printed, printed-figures, printed-refusal    a sheet of recording D prints the table in "The sheet and the printed
+--                 table", one of E its buffer before its start, and one whose tick 3 does not rise the refusal line there
 -- Definitions: specs/. Assumes nothing.
-use Prim.Native.Nat.{ℕ, _-_, _*_}
+use Prim.Native.Nat.{ℕ, _+_, _-_, _*_, _/_, _%_}
 use mathlib.Core.Path.{_≡_, refl}
 use mathlib.Core.List.{List, [], _∷_, _++_}
-use lib.ListN.{getD, replicate}
+use lib.ListN.{length, getD, replicate}
 use Rattle.rules.specs.Refusals as refusal
 use Rattle.model.specs.Numbers.{largest, listOf}
-use Rattle.model.specs.Recording.{Recording, recording, span}
+use Rattle.model.specs.Recording.{Recording, recording, pictures, span}
 use Rattle.model.specs.Arrival.{Bucket, bucket, arrivalStart, Verdict, holds, late, verdictBelow, starts, ends}
 use Rattle.model.specs.Least.{bitsBefore, leastBuffer}
 use Rattle.model.specs.Lookup.{Table, table, rowsUpTo, lookupOf}
-use Rattle.model.specs.Answers.{Answer, given, refused, refuseIf, firstFault, lowest}
+use Rattle.model.specs.Answers.{Answer, given, refused, refuseIf, firstFault, lowest, first}
 use Rattle.model.specs.Outcomes.{verdictOutcome, leastOutcome, lookupOutcome}
 use Rattle.model.specs.Demands.{allowance}
 use Rattle.model.specs.Codes.{unsigned, zerosFrom}
 use Rattle.model.specs.Fields.{rowFields, readFields}
 use Rattle.model.specs.Params.{Params, rowRate, rowSize, readOutcome}
+use Rattle.model.specs.Text.{letters, digits, rowLines}
+use Rattle.model.specs.Sheet.{sheetText}
 
 pub data Figure : Type 0 where
   numbers : List ℕ → Figure
@@ -113,3 +117,31 @@ expected =
 pub starred : computed ≡ expected
 unfolding computed expected largest listOf arrivalStart verdictBelow bitsBefore rowsUpTo refuseIf firstFault lowest unsigned zerosFrom rowFields readFields
 starred = refl
+
+-- a word's four bytes, the lowest first
+word : ℕ → List ℕ
+word x = x % 256 ∷ x / 256 % 256 ∷ x / 65536 % 256 ∷ x / 16777216 ∷ []
+
+words : List ℕ → List ℕ
+unfolding word
+words [] = []
+words (x ∷ more) = word x ++ words more
+
+-- a recording and its rates as a sheet
+pub sheetBytes : Recording → (rates : List ℕ) → List ℕ
+unfolding words
+sheetBytes k rates =
+    let n : ℕ = pictures k in
+    words (n ∷ 28 ∷ (28 + 4 * n) ∷ length rates ∷ (28 + 8 * n) ∷ k .ts ∷ k .nu ∷ k .sizes ++ (k .ticks ++ rates))
+
+pub printed : sheetText (sheetBytes recordingD (250 ∷ 500 ∷ 1000 ∷ [])) ≡ letters "rate buffer start\n250 10250 10250\n500 7500 7500\n1000 5000 5000\n"
+unfolding sheetBytes recordingD largest listOf bitsBefore refuseIf firstFault lowest first digits rowLines letters
+printed = refl
+
+pub printed-figures : sheetText (sheetBytes recordingE (300 ∷ [])) ≡ letters "rate buffer start\n300 900 500\n"
+unfolding sheetBytes recordingE largest listOf bitsBefore refuseIf firstFault lowest first digits rowLines letters
+printed-figures = refl
+
+pub printed-refusal : sheetText (sheetBytes (recording (1 ∷ 1 ∷ 1 ∷ 1 ∷ []) (0 ∷ 1 ∷ 2 ∷ 2 ∷ []) 1 1) (250 ∷ [])) ≡ letters "refused 5 at 3\n"
+unfolding sheetBytes listOf refuseIf firstFault lowest first digits letters
+printed-refusal = refl

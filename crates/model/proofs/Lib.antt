@@ -11,6 +11,8 @@ pub mod PutBitsLaws
 pub mod FieldsLaws
 pub mod Undoing
 pub mod PanelLaws
+pub mod TextLaws
+pub mod SheetLaws
 pub mod Demand2
 pub mod Demand3
 pub mod Cases

@@ -15,23 +15,27 @@
 --     listOf-ext          lists of the same numbers are the same
 --     listOf-append       a list of a + b numbers is one of a and then one of b
 --     listOf-getD         a list is the list of its entries
+--     map-at              a function over a list, at an entry
 --     append-each         what is true of each entry of two lists is true of each entry of one behind the other
 --     written-length      a list written in part keeps its length
---     written-more        one entry more is written behind those at a list's front
+--     written-append      a part written behind a part is both parts written
+--     written-more        so is one entry stored behind a part
 --     written-listOf      so n stores, of f 0 to f (n - 1), write the list of these
+--     written-front       a part written at a list's front is what the list begins with
+--     written-fits        and so has room there
 --     written-part        a list of which the part from an entry on was written at its front is written from that entry on
 --     written-back        so is a list into which such a part has come back, as a lent part does
 -- Assumes nothing.
 use Prim.Native.Nat.{ℕ, zero, suc, _+_, _-_, _*_, _≤_, _<_, zero-le}
-use native.Mathlib.Nat.{le-step, add-zero, add-suc, zero-add, suc-add, le-trans, le-refl, le-of-lt, le-of-eq, lt-trans, lt-of-not-le, lt-suc-self, zero-lt-suc, not-suc-le-zero, suc-le-suc-iff, eq-or-lt-of-le, div-lt-iff-lt-mul, div-mul-le-self, mul-zero, zero-max, le-max-left, le-max-right, max-le, max-eq-left, max-eq-right}
+use native.Mathlib.Nat.{le-step, add-zero, add-suc, add-assoc, zero-add, suc-add, le-trans, le-refl, le-of-lt, le-of-eq, lt-trans, lt-of-not-le, lt-suc-self, zero-lt-suc, not-suc-le-zero, suc-le-suc-iff, eq-or-lt-of-le, div-lt-iff-lt-mul, div-mul-le-self, mul-zero, zero-max, le-max-left, le-max-right, max-le, max-eq-left, max-eq-right}
 use native.Mathlib.Decide.{decLe, le-ind}
 use native.Mathlib.Numerals.{add-one}
 use native.Mathlib.Omega.{arith}
 use mathlib.Core.Path.{_≡_, refl, sym, ap, ap₂, _∙_}
 use mathlib.Core.Logic.{_↔_, ⊎-elim}
-use mathlib.Core.List.{List, [], _∷_, _++_, append-nil, append-assoc}
+use mathlib.Core.List.{List, [], _∷_, _++_, map, append-nil, append-assoc}
 use lib.ListN.{length, getD, take, drop, set, length-append, length-take, length-drop, drop-of-length-le, List·getD-append}
-use lib.Seq.{getD-at, ext-getD, take-all, drop-cons, drop-drop, set-append-seam}
+use lib.Seq.{getD-at, ext-getD, take-all, take-at, drop-at, drop-drop, set-split}
 use lib.Dec.{lit<}
 use Rattle.model.specs.Numbers.{roundUp, largest, Rising, listOf, written}
 
@@ -131,24 +135,49 @@ append-each P (v ∷ a) b front back zero h = front zero (omega arith)
 append-each P (v ∷ a) b front back (suc i) h =
     append-each (λ i. P (suc i)) a b (λ i g. front (suc i) (omega arith)) (λ i g. rw suc-add at (back i g)) i (omega arith)
 
+pub map-at : (f : ℕ → ℕ) (l : List ℕ) (i : ℕ) → i < length l → getD (map f l) i 0 ≡ f (getD l i 0)
+map-at f [] i h = absurd (not-suc-le-zero h)
+map-at f (x ∷ l) zero h = refl
+map-at f (x ∷ l) (suc i) h = map-at f l i (suc-le-suc-iff .0 h)
+
 pub written-length : (l : List ℕ) (at : ℕ) (xs : List ℕ) → at + length xs ≤ length l → length (written l at xs) ≡ length l
 written-length l at xs h = simp (length-append, length-take, length-drop) (omega arith)
 
-pub written-more : (l : List ℕ) (xs : List ℕ) (x : ℕ) → length xs < length l → set (written l 0 xs) (length xs) x ≡ written l 0 (xs ++ (x ∷ []))
-written-more l xs x h =
-    simp (zero-add, length-append, add-one, append-assoc) (rw (drop-cons l (length xs) 0 h) (set-append-seam xs (getD l (length xs) 0) (drop (suc (length xs)) l) x))
+pub written-append : (l : List ℕ) (at : ℕ) (xs ys : List ℕ) → at + length (xs ++ ys) ≤ length l
+    → written (written l at xs) (at + length xs) ys ≡ written l at (xs ++ ys)
+written-append l at xs ys h =
+    let fits : at + (length xs + length ys) ≤ length l = rw length-append at h in
+    let front : length (take at l ++ xs) ≡ at + length xs = simp (length-append, length-take) (omega arith) in
+    rw (← append-assoc (take at l) xs (drop (at + length xs) l), take-at (take at l ++ xs) _ _ front, ← drop-drop (length ys) (at + length xs), drop-at (take at l ++ xs) _ _ front, drop-drop)
+    (simp (length-append, append-assoc, add-assoc))
+
+pub written-more : (l : List ℕ) (at : ℕ) (xs : List ℕ) (x : ℕ) → at + length xs < length l
+    → set (written l at xs) (at + length xs) x ≡ written l at (xs ++ (x ∷ []))
+written-more l at xs x h =
+    let len : length (written l at xs) ≡ length l = written-length l at xs (omega arith) in
+    set-split (written l at xs) (at + length xs) x (omega arith)
+    ∙ rw (← add-one) (written-append l at xs (x ∷ []) (rw length-append (omega arith)))
 
 pub written-listOf : (l : List ℕ) (f : ℕ → ℕ) (i : ℕ) → i < length l → set (written l 0 (listOf f i)) i (f i) ≡ written l 0 (listOf f (i + 1))
 unfolding listOf
 written-listOf l f i h =
     let len : length (listOf f i) ≡ i = listOf-length f i in
-    rw (add-one, len) (rw len at (written-more l (listOf f i) (f i) (rw len h)))
+    rw (add-one, len, zero-add i) (rw (zero-add (length (listOf f i)), len) at (written-more l 0 (listOf f i) (f i) (omega arith)))
 
-pub written-part : (l : List ℕ) (at : ℕ) (xs : List ℕ) → at + length xs ≤ length l → take at l ++ written (drop at l) 0 xs ≡ written l at xs
-written-part l at xs h = rw (zero-add, drop-drop)
+module _ (l₀ l xs : List ℕ) (n : ℕ) (e : l ≡ written l₀ 0 xs) (same : length xs ≡ n) where
+  pub written-front : take n l ≡ xs
+  written-front = ap (take n) e ∙ take-at xs _ n same
 
-pub written-back : (l : List ℕ) (at : ℕ) (xs ys : List ℕ) → at + length xs ≤ length l → ys ≡ written (take (length l - at) (drop at l)) 0 xs
+  pub written-fits : (n ≤ length l) × (n ≡ length (take n l))
+  written-fits =
+      let count : length (take n l) ≡ n = ap length written-front ∙ same in
+      (omega (arith, count, length-take n l), sym count)
+
+pub written-part : (l : List ℕ) (at : ℕ) (xs : List ℕ) → take at l ++ written (drop at l) 0 xs ≡ written l at xs
+written-part l at xs = rw (zero-add, drop-drop)
+
+pub written-back : (l : List ℕ) (at : ℕ) (xs ys : List ℕ) → ys ≡ written (take (length l - at) (drop at l)) 0 xs
     → take at l ++ (ys ++ drop (length l - at) (drop at l)) ≡ written l at xs
-written-back l at xs ys h e =
+written-back l at xs ys e =
     let all : length (drop at l) ≤ length l - at = simp length-drop (le-refl (length l - at)) in
-    rw (e, take-all (length l - at) (drop at l) all, drop-of-length-le (drop at l) all, append-nil) (written-part l at xs h)
+    rw (e, take-all (length l - at) (drop at l) all, drop-of-length-le (drop at l) all, append-nil) (written-part l at xs)

@@ -13,3 +13,5 @@ pub mod Codes
 pub mod Fields
 pub mod Params
 pub mod Undoing
+pub mod Text
+pub mod Sheet

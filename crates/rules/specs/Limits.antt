@@ -16,10 +16,12 @@
 --     sizeShift          size = (value + 1) x 2^(sizeShift + scale)    "HRD parameter bits"
 --     bytesMax           bytes of a lent byte list that count          "HRD parameter bits"
 --     headerBytes        bytes of a sheet's header                     "The sheet and the printed table"
+--     sheetBytesMax      bytes of the largest sheet                    "The sheet and the printed table"
+--     textMax            room for every text that is printed, whatever the numbers of 64 bits in it
 --     limits             all of the above in this order, which the code's constants are tied to
 -- The bits' own ranges come from the standard, so they have names apart from those of buckets and tables.
 -- Laws: proofs/Fits.antt. Assumes nothing.
-use Prim.Native.Nat.{ℕ, _-_, _^_}
+use Prim.Native.Nat.{ℕ, _+_, _-_, _*_, _^_}
 use mathlib.Core.List.{List, [], _∷_}
 
 abbrev pub picturesMax : ℕ
@@ -76,6 +78,13 @@ bytesMax = 2 ^ 29
 abbrev pub headerBytes : ℕ
 headerBytes = 28
 
+-- "exactly 28+8n+4m bytes"
+abbrev pub sheetBytesMax : ℕ
+sheetBytesMax = headerBytes + 8 * sheetPicturesMax + 4 * rowsMax
+
+abbrev pub textMax : ℕ
+textMax = 2 ^ 11
+
 abbrev pub limits : List ℕ
 limits =
     picturesMax
@@ -96,4 +105,6 @@ limits =
     ∷ sizeShift
     ∷ bytesMax
     ∷ headerBytes
+    ∷ sheetBytesMax
+    ∷ textMax
     ∷ []

@@ -40,8 +40,12 @@ pub const BYTES_MAX: usize = 1 << 29;
 
 pub const HEADER_BYTES: usize = 28;
 
+pub const SHEET_BYTES_MAX: usize = HEADER_BYTES + 8 * SHEET_PICTURES_MAX + 4 * ROWS_MAX;
+
+pub const TEXT_MAX: usize = 1 << 11;
+
 // The constants are the limits that the definitions name, each at its place in the list.
-pub fn all_limits() -> [u64; 18]
+pub fn all_limits() -> [u64; 20]
     ensures { λ r. ⌜ r ≡ limits ⌝ }
 {
     [
@@ -63,6 +67,8 @@ pub fn all_limits() -> [u64; 18]
         SIZE_SHIFT,
         BYTES_MAX as u64,
         HEADER_BYTES as u64,
+        SHEET_BYTES_MAX as u64,
+        TEXT_MAX as u64,
     ]
 }
 

@@ -42,6 +42,10 @@ fn shifts() -> (u64, u64) {
     (width(rate - 1), width(size - 1))
 }
 
+fn largest_sheet() -> u64 {
+    limits::HEADER_BYTES + 8 * limits::PICTURES_MAX + 4 * limits::RATES_MAX
+}
+
 #[test]
 fn every_written_limit() {
     let (rate_shift, size_shift) = shifts();
@@ -66,6 +70,8 @@ fn every_written_limit() {
             ("SIZE_SHIFT", size_shift),
             ("BYTES_MAX", limits::BYTES_MAX),
             ("HEADER_BYTES", limits::HEADER_BYTES),
+            ("SHEET_BYTES_MAX", largest_sheet()),
+            ("TEXT_MAX", limits::TEXT_MAX),
         ]
     );
 }

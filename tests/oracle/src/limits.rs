@@ -35,3 +35,5 @@ pub const BYTES_MAX: u64 = 536_870_912;
 
 /// Bytes of a sheet's header.
 pub const HEADER_BYTES: u64 = 28;
+/// Bytes that are enough for every printed text.
+pub const TEXT_MAX: u64 = 2_048;
