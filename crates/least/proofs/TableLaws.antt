@@ -8,7 +8,7 @@ use mathlib.Core.Path.{_≡_, _∙_}
 use mathlib.Core.Bool.{true, false}
 use mathlib.Core.List.{List, [], _∷_, _++_, map}
 use lib.Dec.{ltb}
-use lib.ListN.{length, take, drop, length-map}
+use lib.ListN.{length, take, drop}
 use borrow.Author.Tests.{le-ltb}
 use Rattle.rules.specs.Limits.{rowsMax}
 use Rattle.rules.specs.Refusals as refusal
@@ -82,6 +82,6 @@ module _ (k : Recording) (rates : List ℕ) (at : ℕ) (l m : List ℕ) where
             rated,
             test-false refusal.room 0 (le-ltb _ _ room),
             test-false refusal.room 0 (le-ltb _ _ h),
-            written-back l at (map (leastBuffer k) rates) buffers (rw length-map room) eb,
-            written-back m at (map (leastFullness k) rates) fulls (rw length-map h) ef,
+            written-back l at (map (leastBuffer k) rates) buffers eb,
+            written-back m at (map (leastFullness k) rates) fulls ef,
           )

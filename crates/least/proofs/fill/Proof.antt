@@ -2,6 +2,7 @@
 -- behind them is as it was. The measure is what is left of the list of rates.
 -- Assumes nothing.
 use Prim.Native.Nat.{ℕ, _+_, _-_, _≤_, _<_, zero-le}
+use native.Mathlib.Nat.{zero-add}
 use native.Mathlib.Numerals.{add-one}
 use native.Mathlib.Omega.{arith}
 use mathlib.Core.Path.{_≡_, refl, ap, _∙_}
@@ -38,8 +39,8 @@ module _ (f : ℕ → ℕ) (rates l₀ l : List ℕ) (i : ℕ) (p : Filled f rat
   filled-more : i < length rates → (x : ℕ) → x ≡ f (getD rates i 0) → Filled f rates l₀ (set l i x) (i + 1)
   filled-more h x e =
       let more : map f (take (i + 1) rates) ≡ map f (take i rates) ++ (x ∷ []) = rw (add-one, take-suc rates i 0 h, map-append, e) in
-      let store = written-more l₀ (map f (take i rates)) x (omega (arith, passed, p .room)) in
-      record { among = omega arith; room = p .room; front = cc (store, more, passed, p .front) }
+      let store = written-more l₀ 0 (map f (take i rates)) x (omega (arith, passed, p .room)) in
+      record { among = omega arith; room = p .room; front = cc (store, more, passed, zero-add i, p .front) }
 
   filled-all : length rates ≤ i → l ≡ written l₀ 0 (map f rates)
   filled-all h = p .front ∙ ap (λ r. written l₀ 0 (map f r)) (take-all i rates h)

@@ -12,9 +12,6 @@ use Rattle.model.proofs.AnswersLaws.{noneBad-zero, noneBad-more, firstBad-here,
 use Rattle.model.proofs.FaultsLaws.{entryBefore-more}
 use Rattle.recording.proofs.first_bad_rate.Statement.{statement}
 use Rattle.recording.proofs.first_bad_rate.Tie as tie
-use Rattle.recording.proofs.first_bad_rate.Reads as reads
-use Rattle.recording.proofs.first_bad_rate.Lts as lts
-use Rattle.recording.proofs.is_bad_rate.Reads as is-bad-rate-reads
 
 -- what is known of the rates passed
 record Passed (rates : List ℕ) (before i : ℕ) : Type 0 where

@@ -12,8 +12,6 @@ use Rattle.model.proofs.AnswersLaws.{noneBad-zero, noneBad-more, firstBad-here,
 use Rattle.model.proofs.FaultsLaws.{entryBefore-more, badTick-after}
 use Rattle.recording.proofs.first_bad_tick.Statement.{statement}
 use Rattle.recording.proofs.first_bad_tick.Tie as tie
-use Rattle.recording.proofs.first_bad_tick.Reads as reads
-use Rattle.recording.proofs.first_bad_tick.Lts as lts
 
 -- what is known of the ticks passed
 record Passed (ticks : List ℕ) (first before i : ℕ) : Type 0 where

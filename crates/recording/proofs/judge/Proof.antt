@@ -10,12 +10,6 @@ use Rattle.model.specs.Faults.{outside, badClock, badTick}
 use Rattle.recording.proofs.JudgeLaws.{judge-pictures, judge-lengths, judge-clock, judge-size, judge-tick, judge-passed}
 use Rattle.recording.proofs.judge.Statement.{statement}
 use Rattle.recording.proofs.judge.Tie as tie
-use Rattle.recording.proofs.judge.Reads as reads
-use Rattle.recording.proofs.judge.Lts as lts
-use Rattle.recording.proofs.first_bad_size.Reads as first-bad-size-reads
-use Rattle.recording.proofs.first_bad_tick.Reads as first-bad-tick-reads
-use Rattle.recording.proofs.is_bad_clock.Reads as is-bad-clock-reads
-use Rattle.recording.proofs.is_outside.Reads as is-outside-reads
 
 -- src/lib.rt:121:8
 -- the recording that is judged

@@ -17,7 +17,6 @@ use Rattle.model.specs.Answers.{Answer, given, refused, passed, lowest}
 use Rattle.model.specs.Faults.{verdictFaults}
 use Rattle.model.specs.Outcomes.{scheduleOutcome}
 use Rattle.model.proofs.NumbersLaws.{written-back}
-use Rattle.model.proofs.ArrivalLaws.{starts-length}
 use Rattle.model.proofs.FaultsLaws.{verdictFaults-within}
 use Rattle.recording.specs.Outcome.{judgementOf}
 use Rattle.schedule.proofs.OutcomeLaws.{schedule-refused, schedule-starts-short, schedule-ends-short, schedule-given}
@@ -48,8 +47,8 @@ filled {k} {u} {at} {l} {m} {from = from} {to = to} w answers sees writes-starts
     ∙ rw (
       answers,
       sees,
-      written-back l at (starts k u) from (rw (starts-length k u .0) (w .starts)) writes-starts,
-      written-back m at (ends k u) to (rw (starts-length k u .1) (w .ends)) writes-ends,
+      written-back l at (starts k u) from writes-starts,
+      written-back m at (ends k u) to writes-ends,
     )
 
 -- the recording and the bucket that are judged

@@ -1,0 +1,2 @@
+mod OpenLaws
+pub mod PrintLaws

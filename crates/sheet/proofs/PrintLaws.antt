@@ -1,0 +1,216 @@
+-- What is printed of a sheet, step by step as the code does it. Definitions: model/specs/Sheet.antt.
+--     table-passed     a recording and rates that were judged have a table, where there is room for it
+--     buffers-written, fulls-written    which is what the two lists then have at their front
+--     least-fits       and which fits the room for a text
+--     open-judged      lists with room for every sheet are never the fault in opening one
+--     text-refused     so a sheet that does not open prints its refusal line
+--     Opens            a sheet that opens: its lists stand at the front of the three, were judged there, and their table is printed
+--     opens            it is so of each that opens
+--     print-fits, print-lacks, print-written    what is printed to a lent list
+--     text-printed     as many bytes as the answer says stand at that list's front
+-- Assumes nothing.
+use Prim.Native.Nat.{ℕ, _+_, _*_, _≤_}
+use native.Mathlib.Nat.{le-trans, lt-of-le-of-lt}
+use native.Mathlib.Omega.{arith}
+use mathlib.Core.Path.{_≡_, refl, sym, ap, _∙_}
+use mathlib.Core.Bool.{true, false}
+use mathlib.Core.List.{List, [], _∷_, map}
+use lib.Dec.{ltb, lit<}
+use lib.ListN.{length, getD, take}
+use borrow.Author.Tests.{le-ltb}
+use Rattle.rules.specs.Limits.{headerBytes, sheetPicturesMax, rowsMax, bucketMax, textMax}
+use Rattle.rules.specs.Refusals as refusal
+use Rattle.model.specs.Numbers.{written}
+use Rattle.model.specs.Recording.{Recording, recording, Within}
+use Rattle.model.specs.Least.{leastBuffer, leastFullness}
+use Rattle.model.specs.Answers.{Answer, Judgement, given, passed, refused, orElse, lowest, first, answerWith, writtenIf}
+use Rattle.model.specs.Faults.{outside, rateCountCheck, rateListCheck, roomCheck, tableFaults}
+use Rattle.model.specs.Outcomes as outcomes
+use Rattle.model.specs.Outcomes.{judgeOutcome, tableOutcome}
+use Rattle.model.specs.Text.{refusalLine}
+use Rattle.model.specs.Sheet as sheet
+use Rattle.model.specs.Sheet.{wordAt, pictureCount, rateCount, sheetSizes, sheetTicks, sheetRates, sheetRecording, headerFaults, listFaults, sheetFaults, openFaults, openOutcome, leastText, sheetText, printOutcome}
+use Rattle.model.proofs.NumbersLaws.{map-at, listOf-length, written-front, written-fits}
+use Rattle.model.proofs.AnswersLaws.{refuseIf-passed, orElse-passed, first-passed, first-append, none, test, list, test-false, test-true, answer-passed, answer-refuses}
+use Rattle.model.proofs.FaultsLaws.{outside-false, faults-after, judgeOutcome-within, rateList-within, within-recorded}
+use Rattle.model.proofs.LeastLaws.{leastFullness-buffer, leastBuffer-limit}
+use Rattle.model.proofs.TextLaws.{tableText-fits}
+use Rattle.model.proofs.SheetLaws.{Laid, headerFaults-laid, listFaults-first}
+use Rattle.least.specs.Outcome.{tabled}
+use Rattle.least.specs.declared.Tabled.{Tabled}
+use Rattle.text.specs.Put.{Put}
+use Rattle.sheet.specs.declared.Head.{Head}
+use Rattle.sheet.specs.declared.Opened.{Opened}
+use Rattle.sheet.specs.declared.Opened.the-variants.{Sheet, Refused}
+use Rattle.sheet.specs.declared.Printed.{Printed}
+use Rattle.sheet.specs.declared.Printed.the-variants as printed-answer
+use Rattle.sheet.specs.Outcome.{headOf, openedOf, opened, printedOf, printed}
+
+room-passed : (l : List ℕ) (n : ℕ) → n ≤ length l → roomCheck l 0 n ≡ passed
+room-passed l n h = test-false refusal.room 0 (le-ltb (length l) (0 + n) (omega arith))
+
+-- a recording and rates that were judged
+module _ (k : Recording) (rates : List ℕ) (judged : judgeOutcome k ≡ passed) (counted : rateCountCheck rates ≡ passed) (listed : rateListCheck rates ≡ passed) where
+  pub rows-few : length rates ≤ rowsMax
+  rows-few = outside-false 1 rowsMax (length rates) .0 (refuseIf-passed _ refusal.rate 0 .0 counted) .1
+
+  within : Within k
+  within = judgeOutcome-within k .0 judged
+
+  buffer-small : (rate : ℕ) → leastBuffer k rate ≤ bucketMax
+  buffer-small rate = leastBuffer-limit rate (within-recorded within) (within .few) (within .small)
+
+  pub least-fits : length (leastText k rates) ≤ textMax
+  least-fits =
+      tableText-fits rates (map (leastBuffer k) rates) (map (leastFullness k) rates) rows-few
+      (λ i h.
+      let r = rateList-within rates .0 listed in
+      let b = buffer-small (getD rates i 0) in
+      let f = le-trans (leastFullness-buffer k (getD rates i 0) (within .ticking)) b in
+      rw (map-at (leastBuffer k) rates i h, map-at (leastFullness k) rates i h)
+      (lt-of-le-of-lt (r .small i h) (lit< tt), lt-of-le-of-lt b (lit< tt), lt-of-le-of-lt f (lit< tt)))
+
+  module _ (l m : List ℕ) (roomB : length rates ≤ length l) (roomF : length rates ≤ length m) where
+    pub table-passed : lowest (tableFaults k rates 0 l m) ≡ passed
+    table-passed =
+        let faults = rateCountCheck rates ∷ rateListCheck rates ∷ roomCheck l 0 (length rates) ∷ roomCheck m 0 (length rates) ∷ [] in
+        faults-after k faults (test refusal.rate _ 0 tt (list refusal.rate _ (length rates) tt (test refusal.room _ 0 tt (test refusal.room _ 0 tt none))))
+        ∙ orElse-passed (judgeOutcome k) (first faults) .1 (
+          judged,
+          first-passed faults .1
+              (counted, (listed, (room-passed l (length rates) roomB, (room-passed m (length rates) roomF, tt)))),
+        )
+
+    module _ (r : Tabled) (b f : List ℕ) (p : tabled r b f ≡ tableOutcome k rates 0 l m) where
+      pub buffers-written : b ≡ written l 0 (map (leastBuffer k) rates)
+      buffers-written = ap (λ (t : outcomes.Tabled). t .buffers) p ∙ ap (λ j. writtenIf j l 0 (map (leastBuffer k) rates)) table-passed
+
+      pub fulls-written : f ≡ written m 0 (map (leastFullness k) rates)
+      fulls-written = ap (λ (t : outcomes.Tabled). t .fulls) p ∙ ap (λ j. writtenIf j m 0 (map (leastFullness k) rates)) table-passed
+
+-- the recording at the front of two lists
+abbrev pub front : (sizes ticks : List ℕ) → Head → Recording
+front sizes ticks head = recording (take (head .pictures) sizes) (take (head .pictures) ticks) (head .ts) (head .nu)
+
+-- a sheet that opened, into three lists with room for it
+pub record Opens (bytes sizes ticks rates : List ℕ) (head : Head) : Type 0 where
+  pub sizesFit : (head .pictures ≤ length sizes) × (head .pictures ≡ length (take (head .pictures) sizes))
+  pub ticksFit : (head .pictures ≤ length ticks) × (head .pictures ≡ length (take (head .pictures) ticks))
+  pub ratesFit : (head .rates ≤ length rates) × (head .rates ≡ length (take (head .rates) rates))
+  pub judged : (judgeOutcome (front sizes ticks head) ≡ passed) × (rateCountCheck (take (head .rates) rates) ≡ passed) × (rateListCheck (take (head .rates) rates) ≡ passed)
+  pub text : sheetText bytes ≡ leastText (front sizes ticks head) (take (head .rates) rates)
+
+-- lists with room for every sheet
+module _ (bytes l m r : List ℕ) (hl : sheetPicturesMax ≤ length l) (hm : sheetPicturesMax ≤ length m) (hr : rowsMax ≤ length r) where
+  abbrev rooms : List Judgement
+  rooms = roomCheck l 0 (pictureCount bytes) ∷ roomCheck m 0 (pictureCount bytes) ∷ roomCheck r 0 (rateCount bytes) ∷ []
+
+  rooms-passed : Laid bytes → first rooms ≡ passed
+  rooms-passed h =
+      first-passed rooms .1
+      (room-passed l (pictureCount bytes) (le-trans (h .few) hl), (room-passed m (pictureCount bytes) (le-trans (h .few) hm), (room-passed r (rateCount bytes) (le-trans (h .rows) hr), tt)))
+
+  -- a sheet with no fault is laid out, and has none in its lists
+  parts : first (sheetFaults bytes) ≡ passed → Laid bytes × (lowest (listFaults bytes) ≡ passed)
+  parts e =
+      let lists = lowest (listFaults bytes) ∷ [] in
+      let both = orElse-passed (first (headerFaults bytes)) (first lists) .0 (sym (first-append (headerFaults bytes) lists) ∙ e) in
+      (headerFaults-laid bytes .0 (both .0), first-passed lists .0 (both .1) .0)
+
+  pub open-judged : first (openFaults bytes l m r) ≡ first (sheetFaults bytes)
+  open-judged = first-append (sheetFaults bytes) rooms ∙ go _ refl
+    where
+      go : (j : Judgement) → first (sheetFaults bytes) ≡ j → orElse (first (sheetFaults bytes)) (first rooms) ≡ first (sheetFaults bytes)
+      go (given tt) e = rw e (rooms-passed (parts e .0))
+      go (refused n i) e = rw e
+
+  module _ (o : Opened) (sizes ticks rates : List ℕ) (p : opened o sizes ticks rates ≡ openOutcome bytes l m r) where
+    answers : {a : Answer sheet.Head} → opened o sizes ticks rates .answer ≡ a → answerWith (first (openFaults bytes l m r)) (sheet.headOf bytes) ≡ a
+    answers e = sym (ap (λ (t : sheet.Opened). t .answer) p) ∙ e
+
+    pub text-refused : (n i : ℕ) → o ≡ Refused n i → sheetText bytes ≡ refusalLine n i
+    text-refused n i e = rw (sym open-judged ∙ answer-refuses _ (sheet.headOf bytes) n i (answers (ap openedOf e)))
+
+    module _ (head : Head) (e : o ≡ Sheet head) where
+      said : (first (openFaults bytes l m r) ≡ passed) × (sheet.headOf bytes ≡ headOf head)
+      said = answer-passed _ (sheet.headOf bytes) (headOf head) (answers (ap openedOf e))
+
+      passes : first (sheetFaults bytes) ≡ passed
+      passes = sym open-judged ∙ said .0
+
+      pictures : pictureCount bytes ≡ head .pictures
+      pictures = ap (λ h. h .pictures) (said .1)
+
+      rows : rateCount bytes ≡ head .rates
+      rows = ap (λ h. h .rates) (said .1)
+
+      sizes-written : sizes ≡ written l 0 (sheetSizes bytes)
+      sizes-written = ap (λ (t : sheet.Opened). t .sizes) p ∙ ap (λ j. writtenIf j l 0 (sheetSizes bytes)) (said .0)
+
+      ticks-written : ticks ≡ written m 0 (sheetTicks bytes)
+      ticks-written = ap (λ (t : sheet.Opened). t .ticks) p ∙ ap (λ j. writtenIf j m 0 (sheetTicks bytes)) (said .0)
+
+      rates-written : rates ≡ written r 0 (sheetRates bytes)
+      rates-written = ap (λ (t : sheet.Opened). t .rates) p ∙ ap (λ j. writtenIf j r 0 (sheetRates bytes)) (said .0)
+
+      sizes-fit : (head .pictures ≤ length sizes) × (head .pictures ≡ length (take (head .pictures) sizes))
+      sizes-fit = written-fits l sizes (sheetSizes bytes) (head .pictures) sizes-written (listOf-length _ _ ∙ pictures)
+
+      ticks-fit : (head .pictures ≤ length ticks) × (head .pictures ≡ length (take (head .pictures) ticks))
+      ticks-fit = written-fits m ticks (sheetTicks bytes) (head .pictures) ticks-written (listOf-length _ _ ∙ pictures)
+
+      rates-fit : (head .rates ≤ length rates) × (head .rates ≡ length (take (head .rates) rates))
+      rates-fit = written-fits r rates (sheetRates bytes) (head .rates) rates-written (listOf-length _ _ ∙ rows)
+
+      whole : front sizes ticks head ≡ sheetRecording bytes
+      whole =
+          rw (
+            written-front l sizes (sheetSizes bytes) (head .pictures) sizes-written (listOf-length _ _ ∙ pictures),
+            written-front m ticks (sheetTicks bytes) (head .pictures) ticks-written (listOf-length _ _ ∙ pictures),
+            sym (ap (λ (h : sheet.Head). h .ts) (said .1)),
+            sym (ap (λ (h : sheet.Head). h .nu) (said .1)),
+          )
+
+      listed : take (head .rates) rates ≡ sheetRates bytes
+      listed = written-front r rates (sheetRates bytes) (head .rates) rates-written (listOf-length _ _ ∙ rows)
+
+      lists : (judgeOutcome (sheetRecording bytes) ≡ passed) × (rateListCheck (sheetRates bytes) ≡ passed)
+      lists =
+          let both = orElse-passed (judgeOutcome (sheetRecording bytes)) _ .0 (sym (listFaults-first bytes) ∙ parts passes .1) in
+          (both .0, first-passed (rateListCheck (sheetRates bytes) ∷ []) .0 (both .1) .0)
+
+      opened-judged : (judgeOutcome (front sizes ticks head) ≡ passed) × (rateCountCheck (take (head .rates) rates) ≡ passed) × (rateListCheck (take (head .rates) rates) ≡ passed)
+      opened-judged =
+          let h : Laid bytes = parts passes .0 in
+          let count : outside 1 rowsMax (length (sheetRates bytes)) ≡ false = rw (listOf-length (λ i. wordAt bytes (headerBytes + 8 * pictureCount bytes + 4 * i)) (rateCount bytes)) (outside-false 1 rowsMax (rateCount bytes) .1 (h .rated, h .rows)) in
+          (ap judgeOutcome whole ∙ lists .0, ap rateCountCheck listed ∙ test-false refusal.rate 0 count, ap rateListCheck listed ∙ lists .1)
+
+      text-opened : sheetText bytes ≡ leastText (front sizes ticks head) (take (head .rates) rates)
+      text-opened = rw (passes, whole, listed)
+
+      pub opens : Opens bytes sizes ticks rates head
+      opens = record { sizesFit = sizes-fit; ticksFit = ticks-fit; ratesFit = rates-fit; judged = opened-judged; text = text-opened }
+
+-- printing to a lent list what was put together
+module _ (bytes text whole₀ whole : List ℕ) (end : ℕ) (put : Put whole₀ 0 (sheetText bytes) whole end) where
+  ends : length (sheetText bytes) ≡ end
+  ends = omega (arith, put .1)
+
+  pub print-fits : (end ≤ length whole) × (end ≡ length (take end whole))
+  print-fits = written-fits whole₀ whole (sheetText bytes) end (put .0) ends
+
+  pub print-lacks : ltb (length text) (0 + end) ≡ true → printed (printed-answer.Refused refusal.room 0) text ≡ printOutcome bytes text
+  print-lacks e = let f = rw (← ends) at e in rw (test-true refusal.room 0 f)
+
+  pub print-written : ltb (length text) (0 + end) ≡ false → (text' : List ℕ) → text' ≡ written text 0 (take end whole) → printed (printed-answer.Text end) text' ≡ printOutcome bytes text
+  print-written e text' w =
+      let f = rw (← ends) at e in
+      let front : take end whole ≡ sheetText bytes = written-front whole₀ whole (sheetText bytes) end (put .0) ends in
+      rw (test-false refusal.room 0 f, w, front, ends)
+
+pub text-printed : (bytes text₀ text : List ℕ) (v : Printed) (n : ℕ) → printed v text ≡ printOutcome bytes text₀ → v ≡ printed-answer.Text n
+    → (n ≤ length text) × (n ≡ length (take n text))
+text-printed bytes text₀ text v n p e =
+    let room : Judgement = roomCheck text₀ 0 (length (sheetText bytes)) in
+    let (ok, count) = answer-passed room (length (sheetText bytes)) n (sym (ap (λ (t : sheet.Printed). t .answer) p) ∙ ap printedOf e) in
+    written-fits text₀ text (sheetText bytes) n (ap (λ (t : sheet.Printed). t .text) p ∙ ap (λ j. writtenIf j text₀ 0 (sheetText bytes)) ok) count
