@@ -13,7 +13,7 @@
  *   nothing from one call to the next.
  * - A refusal has kind 0, its number and its place; all figures are 0 and the lists that the call
  *   could have written are unchanged. Of several faults the lowest number is given, but for a
- *   parameter record in the order that its operations name.
+ *   parameter record and a sheet in the order that their operations name.
  * - Any other answer has number 0 and place 0; a figure that its kind does not name is 0.
  */
 #ifndef PLANNER_H
@@ -104,6 +104,25 @@ typedef struct PlannerPosition {
     uint64_t next;
 } PlannerPosition;
 
+/* Kind 1: how many pictures and rates a sheet has, and its clock. */
+typedef struct PlannerSheet {
+    uint64_t kind;
+    uint64_t number;
+    uint64_t place;
+    uint64_t pictures;
+    uint64_t rates;
+    uint64_t ts;
+    uint64_t nu;
+} PlannerSheet;
+
+/* Kind 1: how many bytes were printed. */
+typedef struct PlannerText {
+    uint64_t kind;
+    uint64_t number;
+    uint64_t place;
+    uint64_t length;
+} PlannerText;
+
 /* The arguments that several operations share:
  *   sizes     bits of each picture; the picture count is the length of this list
  *   ticks     removal tick of each picture, strictly rising from any first value
@@ -113,7 +132,7 @@ typedef struct PlannerPosition {
  *   fullness  start fullness in bits, from 1 to buffer
  *   at        first entry to write in both lent lists; each needs room from there on, and entries
  *             before it and after the last one written stay untouched
- *   bytes     bits, of each byte the highest first; only the first 2^29 bytes count
+ *   bytes     of a record, bits, of each byte the highest first; only the first 2^29 bytes count
  *   start     bit position at which a record starts, counted from 0 */
 
 /* Judges a recording and its clock.
@@ -189,6 +208,24 @@ PlannerVerdict planner_row_verdict(const uint64_t *sizes, size_t sizes_length,
                                    const uint64_t *ticks, size_t ticks_length, uint64_t ts,
                                    uint64_t nu, PlannerParams params, size_t row,
                                    uint64_t fullness);
+
+/* Opens a sheet: little-endian words of 32 bits, a header of seven (picture count n, offset of the
+ * sizes, of the ticks, rate count m, offset of the rates, ts, nu), then n sizes, n ticks and m
+ * rates, 28 + 8 x n + 4 x m bytes in all. Writes sizes, ticks and rates to the first entries of
+ * three lent lists; 4096, 4096 and 32 entries are always enough.
+ * Refusals: 12 (fewer than 28 bytes) at 0; then 1 (picture count) and 6 (rate count) at 0; then 12
+ * (an offset, or the length) at 0; then the lowest of 3 to 5 as planner_judge, 6 at the first rate
+ * out of range or not rising and 8 (too little room in one of the lists) at 0. */
+PlannerSheet planner_open_sheet(const uint8_t *bytes, size_t bytes_length, uint64_t *sizes,
+                                size_t sizes_length, uint64_t *ticks, size_t ticks_length,
+                                uint64_t *rates, size_t rates_length);
+
+/* Prints to the front of a lent list of bytes what the program prints for a sheet: its table, or
+ * the line of its refusal, which is then an answer and no refusal of this call. 2048 bytes are
+ * always enough; nothing ends the text but its length.
+ * Refusals: 8 (too little room for the text) at 0. */
+PlannerText planner_print_sheet(const uint8_t *bytes, size_t bytes_length, uint8_t *text,
+                                size_t text_length);
 
 #ifdef __cplusplus
 }

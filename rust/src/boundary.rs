@@ -62,6 +62,25 @@ pub struct PlannerPosition {
     pub next: u64,
 }
 
+#[repr(C)]
+pub struct PlannerSheet {
+    pub kind: u64,
+    pub number: u64,
+    pub place: u64,
+    pub pictures: u64,
+    pub rates: u64,
+    pub ts: u64,
+    pub nu: u64,
+}
+
+#[repr(C)]
+pub struct PlannerText {
+    pub kind: u64,
+    pub number: u64,
+    pub place: u64,
+    pub length: u64,
+}
+
 extern "C" {
     pub fn planner_judge(
         sizes: *const u64,
@@ -164,4 +183,22 @@ extern "C" {
         row: usize,
         fullness: u64,
     ) -> PlannerVerdict;
+
+    pub fn planner_open_sheet(
+        bytes: *const u8,
+        bytes_length: usize,
+        sizes: *mut u64,
+        sizes_length: usize,
+        ticks: *mut u64,
+        ticks_length: usize,
+        rates: *mut u64,
+        rates_length: usize,
+    ) -> PlannerSheet;
+
+    pub fn planner_print_sheet(
+        bytes: *const u8,
+        bytes_length: usize,
+        text: *mut u8,
+        text_length: usize,
+    ) -> PlannerText;
 }

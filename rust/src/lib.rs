@@ -79,38 +79,42 @@ pub struct Params {
     pub time_offset_length: u64,
 }
 
+/// What an opened sheet says beside its lists: how many pictures and rates it has, and its clock.
+#[derive(Clone, Copy, Debug, PartialEq, Eq)]
+pub struct Sheet {
+    pub pictures: usize,
+    pub rates: usize,
+    pub ts: u64,
+    pub nu: u64,
+}
+
+/// A call whose first arguments are a recording's two lists and its clock.
+macro_rules! with_recording {
+    ($operation:ident, $rec:ident $(, $argument:expr)*) => {
+        boundary::$operation(
+            $rec.sizes.as_ptr(),
+            $rec.sizes.len(),
+            $rec.ticks.as_ptr(),
+            $rec.ticks.len(),
+            $rec.ts,
+            $rec.nu
+            $(, $argument)*
+        )
+    };
+}
+
 /// Judges a recording and its clock.
 pub fn judge(rec: &Recording) -> Result<(), Refused> {
     // SAFETY: pointers and lengths are those of live slices, which nothing writes.
-    let answer = unsafe {
-        boundary::planner_judge(
-            rec.sizes.as_ptr(),
-            rec.sizes.len(),
-            rec.ticks.as_ptr(),
-            rec.ticks.len(),
-            rec.ts,
-            rec.nu,
-        )
-    };
+    let answer = unsafe { with_recording!(planner_judge, rec) };
     passed(answer)
 }
 
 /// Says whether a bucket holds a recording at a rate.
 pub fn verdict(rec: &Recording, rate: u64, bucket: Bucket) -> Result<Verdict, Refused> {
     // SAFETY: pointers and lengths are those of live slices, which nothing writes.
-    let answer = unsafe {
-        boundary::planner_verdict(
-            rec.sizes.as_ptr(),
-            rec.sizes.len(),
-            rec.ticks.as_ptr(),
-            rec.ticks.len(),
-            rec.ts,
-            rec.nu,
-            rate,
-            bucket.buffer,
-            bucket.fullness,
-        )
-    };
+    let answer =
+        unsafe { with_recording!(planner_verdict, rec, rate, bucket.buffer, bucket.fullness) };
     held(answer)
 }
 
@@ -126,13 +130,9 @@ pub fn schedule(
     // SAFETY: pointers and lengths are those of live slices; the two written ones are borrowed
     // mutably, so they overlap no other.
     let answer = unsafe {
-        boundary::planner_schedule(
-            rec.sizes.as_ptr(),
-            rec.sizes.len(),
-            rec.ticks.as_ptr(),
-            rec.ticks.len(),
-            rec.ts,
-            rec.nu,
+        with_recording!(
+            planner_schedule,
+            rec,
             rate,
             bucket.buffer,
             bucket.fullness,
@@ -140,7 +140,7 @@ pub fn schedule(
             starts.as_mut_ptr(),
             starts.len(),
             ends.as_mut_ptr(),
-            ends.len(),
+            ends.len()
         )
     };
     held(answer)
@@ -149,17 +149,7 @@ pub fn schedule(
 /// Gives the least figures of a recording at a rate.
 pub fn least(rec: &Recording, rate: u64) -> Result<Bucket, Refused> {
     // SAFETY: pointers and lengths are those of live slices, which nothing writes.
-    let answer = unsafe {
-        boundary::planner_least(
-            rec.sizes.as_ptr(),
-            rec.sizes.len(),
-            rec.ticks.as_ptr(),
-            rec.ticks.len(),
-            rec.ts,
-            rec.nu,
-            rate,
-        )
-    };
+    let answer = unsafe { with_recording!(planner_least, rec, rate) };
     figures(answer)
 }
 
@@ -174,20 +164,16 @@ pub fn table(
     // SAFETY: pointers and lengths are those of live slices; the two written ones are borrowed
     // mutably, so they overlap no other.
     let answer = unsafe {
-        boundary::planner_table(
-            rec.sizes.as_ptr(),
-            rec.sizes.len(),
-            rec.ticks.as_ptr(),
-            rec.ticks.len(),
-            rec.ts,
-            rec.nu,
+        with_recording!(
+            planner_table,
+            rec,
             rates.as_ptr(),
             rates.len(),
             at,
             buffers.as_mut_ptr(),
             buffers.len(),
             fulls.as_mut_ptr(),
-            fulls.len(),
+            fulls.len()
         )
     };
     passed(answer)
@@ -218,7 +204,7 @@ pub fn seconds(rate: u64, bucket: Bucket) -> Result<Seconds, Refused> {
     // SAFETY: only numbers cross.
     let answer = unsafe { boundary::planner_seconds(rate, bucket.buffer, bucket.fullness) };
     let bits = [answer.wait.to_bits(), answer.fill.to_bits()];
-    match kind(answer.kind, answer.number, answer.place, bits)? {
+    match kind(answer.kind, answer.number, answer.place, &bits)? {
         1 => Ok(Seconds {
             wait: answer.wait,
             fill: answer.fill,
@@ -232,7 +218,7 @@ pub fn panel(rate: u64, bucket: Bucket, limit: f64) -> Result<Reading, Refused> 
     // SAFETY: only numbers cross.
     let answer = unsafe { boundary::planner_panel(rate, bucket.buffer, bucket.fullness, limit) };
     let bits = [answer.wait.to_bits(), answer.limit.to_bits()];
-    match kind(answer.kind, answer.number, answer.place, bits)? {
+    match kind(answer.kind, answer.number, answer.place, &bits)? {
         1 => Ok(Reading::Within(answer.wait)),
         2 => Ok(Reading::Over(answer.wait, answer.limit)),
         other => unknown(other),
@@ -244,7 +230,7 @@ pub fn read_params(bytes: &[u8], start: u64) -> Result<(Params, u64), Refused> {
     // SAFETY: pointer and length are those of a live slice, which nothing writes.
     let answer = unsafe { boundary::planner_read_params(bytes.as_ptr(), bytes.len(), start) };
     debug_assert!(answer.kind != 0 || answer.params == Params::default());
-    match kind(answer.kind, answer.number, answer.place, [answer.next, 0])? {
+    match kind(answer.kind, answer.number, answer.place, &[answer.next])? {
         1 => Ok((answer.params, answer.next)),
         other => unknown(other),
     }
@@ -257,7 +243,7 @@ pub fn write_params(params: &Params, bytes: &mut [u8], start: u64) -> Result<u64
     // copied.
     let answer =
         unsafe { boundary::planner_write_params(*params, bytes.as_mut_ptr(), bytes.len(), start) };
-    match kind(answer.kind, answer.number, answer.place, [answer.next, 0])? {
+    match kind(answer.kind, answer.number, answer.place, &[answer.next])? {
         1 => Ok(answer.next),
         other => unknown(other),
     }
@@ -273,24 +259,59 @@ pub fn row_verdict(
 ) -> Result<Verdict, Refused> {
     // SAFETY: pointers and lengths are those of live slices, which nothing writes; the record is
     // copied.
-    let answer = unsafe {
-        boundary::planner_row_verdict(
-            rec.sizes.as_ptr(),
-            rec.sizes.len(),
-            rec.ticks.as_ptr(),
-            rec.ticks.len(),
-            rec.ts,
-            rec.nu,
-            *params,
-            row,
-            fullness,
-        )
-    };
+    let answer = unsafe { with_recording!(planner_row_verdict, rec, *params, row, fullness) };
     held(answer)
 }
 
+/// Opens a sheet: writes its sizes, ticks and rates to the first entries of three lists.
+pub fn open_sheet(
+    bytes: &[u8],
+    sizes: &mut [u64],
+    ticks: &mut [u64],
+    rates: &mut [u64],
+) -> Result<Sheet, Refused> {
+    // SAFETY: pointers and lengths are those of live slices; the three written ones are borrowed
+    // mutably, so they overlap no other.
+    let answer = unsafe {
+        boundary::planner_open_sheet(
+            bytes.as_ptr(),
+            bytes.len(),
+            sizes.as_mut_ptr(),
+            sizes.len(),
+            ticks.as_mut_ptr(),
+            ticks.len(),
+            rates.as_mut_ptr(),
+            rates.len(),
+        )
+    };
+    let figures = [answer.pictures, answer.rates, answer.ts, answer.nu];
+    match kind(answer.kind, answer.number, answer.place, &figures)? {
+        1 => Ok(Sheet {
+            pictures: answer.pictures as usize,
+            rates: answer.rates as usize,
+            ts: answer.ts,
+            nu: answer.nu,
+        }),
+        other => unknown(other),
+    }
+}
+
+/// Prints what a sheet comes to, its table or its refusal line, to the front of a list of bytes,
+/// and gives the number of bytes printed.
+pub fn print_sheet(bytes: &[u8], text: &mut [u8]) -> Result<usize, Refused> {
+    // SAFETY: pointers and lengths are those of live slices; the written one is borrowed mutably,
+    // so it overlaps no other.
+    let answer = unsafe {
+        boundary::planner_print_sheet(bytes.as_ptr(), bytes.len(), text.as_mut_ptr(), text.len())
+    };
+    match kind(answer.kind, answer.number, answer.place, &[answer.length])? {
+        1 => Ok(answer.length as usize),
+        other => unknown(other),
+    }
+}
+
 fn passed(answer: PlannerJudgement) -> Result<(), Refused> {
-    match kind(answer.kind, answer.number, answer.place, [0, 0])? {
+    match kind(answer.kind, answer.number, answer.place, &[])? {
         1 => Ok(()),
         other => unknown(other),
     }
@@ -298,7 +319,7 @@ fn passed(answer: PlannerJudgement) -> Result<(), Refused> {
 
 fn held(answer: PlannerVerdict) -> Result<Verdict, Refused> {
     let figures = [answer.picture, answer.units];
-    match kind(answer.kind, answer.number, answer.place, figures)? {
+    match kind(answer.kind, answer.number, answer.place, &figures)? {
         1 => Ok(Verdict::Holds),
         2 => Ok(Verdict::Late {
             picture: answer.picture,
@@ -310,7 +331,7 @@ fn held(answer: PlannerVerdict) -> Result<Verdict, Refused> {
 
 fn figures(answer: PlannerBucket) -> Result<Bucket, Refused> {
     let figures = [answer.buffer, answer.fullness];
-    match kind(answer.kind, answer.number, answer.place, figures)? {
+    match kind(answer.kind, answer.number, answer.place, &figures)? {
         1 => Ok(Bucket {
             buffer: answer.buffer,
             fullness: answer.fullness,
@@ -321,9 +342,9 @@ fn figures(answer: PlannerBucket) -> Result<Bucket, Refused> {
 
 /// The kind of an answer that is no refusal. A refusal's figures are 0; every other answer's
 /// number and place are.
-fn kind(kind: u64, number: u64, place: u64, figures: [u64; 2]) -> Result<u64, Refused> {
+fn kind(kind: u64, number: u64, place: u64, figures: &[u64]) -> Result<u64, Refused> {
     if kind == 0 {
-        debug_assert_eq!(figures, [0, 0]);
+        debug_assert!(figures.iter().all(|&figure| figure == 0));
         let number = u8::try_from(number).expect("a refusal's number is from 1 to 13");
         return Err(Refused { number, place });
     }

@@ -4,10 +4,10 @@
 --     figure-between     and gives, between neighbouring rows and on them, the figure interpolated and rounded up
 --     demand3-answers    it holds by the planner's own verdict, within the allowance
 -- Assumes nothing.
-use Prim.Native.Nat.{ℕ, zero, suc, _+_, _-_, _*_, _≤_, _<_}
-use native.Mathlib.Nat.{le-trans, le-antisymm, le-of-lt, not-suc-le-zero, le-of-suc-le-suc, eq-or-lt-of-le, zero-add, mul-zero, sub-self, add-zero, mul-le-mul-right, le-of-mul-le-mul-left}
+use Prim.Native.Nat.{ℕ, suc, _+_, _-_, _*_, _≤_, _<_}
+use native.Mathlib.Nat.{le-trans, le-antisymm, le-of-lt, eq-or-lt-of-le, zero-add, mul-zero, sub-self, add-zero, mul-le-mul-right, le-of-mul-le-mul-left}
 use native.Mathlib.Omega.{arith}
-use mathlib.Core.Path.{_≡_, refl, sym, ap, ap₂, _∙_}
+use mathlib.Core.Path.{_≡_, sym, ap, ap₂, _∙_}
 use mathlib.Core.Bool.{false}
 use mathlib.Core.Logic.{⊎-elim}
 use mathlib.Core.List.{List, [], _∷_, map, append-nil}
@@ -26,7 +26,7 @@ use Rattle.model.specs.Faults.{outside, badClock, badRate, badBucket, badRow, r
 use Rattle.model.specs.Outcomes as outcomes
 use Rattle.model.specs.Outcomes.{judgeOutcome}
 use Rattle.model.specs.Demands.{between}
-use Rattle.model.proofs.NumbersLaws.{roundUp-le, roundUp-above}
+use Rattle.model.proofs.NumbersLaws.{roundUp-le, roundUp-above, map-at}
 use Rattle.model.proofs.AnswersLaws.{orElse-passed, first-passed, firstFault-passed, lowest-first, none, test, list, test-false, answer-given}
 use Rattle.model.proofs.RecordingLaws.{within-near}
 use Rattle.model.proofs.FaultsLaws.{or-false, outside-false, faults-after, judgeOutcome-within, rateList-within, lookupFaults-ascending, within-recorded}
@@ -40,11 +40,6 @@ use Rattle.claims.specs.Promises.{TablePromise, LeastPromise}
 use Rattle.claims.specs.Demands.{Demand3Answers}
 use Rattle.claims.proofs.Unique.{foundOf-one}
 use Rattle.claims.proofs.Demand2.{verdict-promised}
-
-map-at : (f : ℕ → ℕ) (l : List ℕ) (j : ℕ) → j < length l → getD (map f l) j 0 ≡ f (getD l j 0)
-map-at f [] j h = absurd (not-suc-le-zero h)
-map-at f (x ∷ l) zero h = refl
-map-at f (x ∷ l) (suc j) h = map-at f l j (le-of-suc-le-suc h)
 
 -- a list written in all of its entries is what was written
 written-all : (l xs : List ℕ) → length xs ≡ length l → written l 0 xs ≡ xs

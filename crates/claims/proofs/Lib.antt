@@ -1,3 +1,5 @@
 pub mod Unique
+pub mod ExportsUnique
+pub mod Demand1
 pub mod Demand2
 pub mod Demand3

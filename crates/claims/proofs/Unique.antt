@@ -1,7 +1,7 @@
 -- For each public operation: two outcomes that its promise allows are equal, answer, place and the lists afterwards. Promises:
 -- specs/Promises.antt.
 --     judge-unique, verdict-unique, schedule-unique, least-unique, table-unique, lookup-unique, seconds-unique, panel-unique,
---     record-unique, read-unique, write-unique, row-unique
+--     record-unique, read-unique, write-unique, row-unique, open-unique, print-unique
 -- Assumes nothing.
 use Prim.Native.Nat.{ℕ}
 use native.Mathlib.Omega.{arith}
@@ -40,7 +40,14 @@ use Rattle.hrd.specs.declared.Judged.the-variants as judged
 use Rattle.hrd.specs.declared.Position.{Position}
 use Rattle.hrd.specs.declared.Position.the-variants as position
 use Rattle.hrd.specs.declared.Found as read
-use Rattle.claims.specs.Promises.{JudgePromise, VerdictPromise, SchedulePromise, LeastPromise, TablePromise, LookupPromise, SecondsPromise, PanelPromise, RecordPromise, ReadPromise, WritePromise, RowPromise}
+use Rattle.model.specs.Sheet as sheet
+use Rattle.sheet.specs.Outcome.{headOf, openedOf, printedOf}
+use Rattle.sheet.specs.declared.Head.{Head}
+use Rattle.sheet.specs.declared.Opened.{Opened}
+use Rattle.sheet.specs.declared.Opened.the-variants as opened
+use Rattle.sheet.specs.declared.Printed.{Printed}
+use Rattle.sheet.specs.declared.Printed.the-variants as printed
+use Rattle.claims.specs.Promises.{JudgePromise, VerdictPromise, SchedulePromise, LeastPromise, TablePromise, LookupPromise, SecondsPromise, PanelPromise, RecordPromise, ReadPromise, WritePromise, RowPromise, OpenPromise, PrintPromise}
 
 -- each answer is told by its meaning: no two variants say the same
 judgementOf-one : (v w : Judgement) → judgementOf v ≡ judgementOf w → v ≡ w
@@ -127,8 +134,23 @@ codeParams p =
       «time_offset_length» = p .time-offset-length;
     }
 
-paramsOf-one : (v w : Params) → hrd.paramsOf v ≡ hrd.paramsOf w → v ≡ w
+pub paramsOf-one : (v w : Params) → hrd.paramsOf v ≡ hrd.paramsOf w → v ≡ w
 paramsOf-one v w e = ap codeParams e
+
+headOf-one : (v w : Head) → headOf v ≡ headOf w → v ≡ w
+headOf-one v w e = ap (λ (h : sheet.Head). record { pictures = h .pictures; rates = h .rates; ts = h .ts; nu = h .nu }) e
+
+openedOf-one : (v w : Opened) → openedOf v ≡ openedOf w → v ≡ w
+openedOf-one (opened.Sheet h) (opened.Sheet h′) e = let same : headOf h ≡ headOf h′ = cc in ap opened.Sheet (headOf-one h h′ same)
+openedOf-one (opened.Sheet h) (opened.Refused n′ i′) e = let z : _≡_ {A = ℕ} 0 1 = cc in absurd (omega arith)
+openedOf-one (opened.Refused n i) (opened.Sheet h′) e = let z : _≡_ {A = ℕ} 0 1 = cc in absurd (omega arith)
+openedOf-one (opened.Refused n i) (opened.Refused n′ i′) e = cc
+
+printedOf-one : (v w : Printed) → printedOf v ≡ printedOf w → v ≡ w
+printedOf-one (printed.Text x) (printed.Text x′) e = cc
+printedOf-one (printed.Text x) (printed.Refused n′ i′) e = let z : _≡_ {A = ℕ} 0 1 = cc in absurd (omega arith)
+printedOf-one (printed.Refused n i) (printed.Text x′) e = let z : _≡_ {A = ℕ} 0 1 = cc in absurd (omega arith)
+printedOf-one (printed.Refused n i) (printed.Refused n′ i′) e = cc
 
 pub judge-unique : (k : Recording) (v w : Judgement) → JudgePromise k v → JudgePromise k w → v ≡ w
 judge-unique k v w p q = judgementOf-one v w (p ∙ sym q)
@@ -178,3 +200,18 @@ write-unique p bytes start v w after after′ a b =
 
 pub row-unique : (k : Recording) (p : Params) (row fullness : ℕ) (v w : Verdict) → RowPromise k p row fullness v → RowPromise k p row fullness w → v ≡ w
 row-unique k p row fullness v w a b = answerOf-one v w (a ∙ sym b)
+
+pub open-unique : (bytes l m n : List ℕ) (v w : Opened) (s t r s′ t′ r′ : List ℕ)
+    → OpenPromise bytes l m n v s t r → OpenPromise bytes l m n w s′ t′ r′ → (v ≡ w) × (s ≡ s′) × (t ≡ t′) × (r ≡ r′)
+open-unique bytes l m n v w s t r s′ t′ r′ a b =
+    let same = a ∙ sym b in (
+      openedOf-one v w (ap (λ (o : sheet.Opened). o .answer) same),
+      ap (λ (o : sheet.Opened). o .sizes) same,
+      ap (λ (o : sheet.Opened). o .ticks) same,
+      ap (λ (o : sheet.Opened). o .rates) same,
+    )
+
+pub print-unique : (bytes l : List ℕ) (v w : Printed) (t t′ : List ℕ) → PrintPromise bytes l v t → PrintPromise bytes l w t′ → (v ≡ w) × (t ≡ t′)
+print-unique bytes l v w t t′ a b =
+    let same = a ∙ sym b in
+    (printedOf-one v w (ap (λ (o : sheet.Printed). o .answer) same), ap (λ (o : sheet.Printed). o .text) same)

@@ -1,4 +1,7 @@
--- Demands 2 and 3 about the planner's own answers, as propositions. Proved in proofs/Demand2.antt and proofs/Demand3.antt.
+-- The three demands about the planner's own answers, as propositions. Proved in proofs/Demand1.antt, Demand2.antt and Demand3.antt.
+--     Told              what a struct says is what an outcome says: a refusal its number and place, with zeros and untouched lists
+--     Demand1Judge, Demand1Verdict, Demand1Schedule, Demand1Least, Demand1Table, Demand1Lookup, Demand1Seconds, Demand1Panel,
+--     Demand1Read, Demand1Write, Demand1Row, Demand1Open, Demand1Print    so does each exported operation, whatever it is handed
 --     Demand2Answers    the planner's verdict on a bucket is "holds" exactly when both figures are at least the planner's own least
 --     Demand3Answers    a bucket that the planner looks up between neighbouring rows of its own table holds by its own verdict, and
 --                       exceeds each of its own least figures by less than the allowance
@@ -9,11 +12,17 @@ use mathlib.Core.Logic.{_↔_}
 use mathlib.Core.Bool.{false}
 use mathlib.Core.List.{List}
 use lib.ListN.{length, getD}
+use lib.Ieee.{Float}
 use Rattle.model.specs.Recording.{Recording, span}
-use Rattle.model.specs.Arrival.{bucket}
-use Rattle.model.specs.Lookup.{table}
+use Rattle.model.specs.Arrival.{Bucket, bucket}
+use Rattle.model.specs.Lookup.{Table, table}
+use Rattle.model.specs.Answers.{Answer, given, refused}
+use Rattle.model.specs.Outcomes.{judgeOutcome, verdictOutcome, scheduleOutcome, leastOutcome, tableOutcome, lookupOutcome}
+use Rattle.model.specs.Panel.{zeroSeconds, secondsOutcome, panelOutcome}
+use Rattle.model.specs.Params.{zeroParams, readOutcome, writeOutcome, rowVerdictOutcome}
 use Rattle.model.specs.Faults.{badBucket}
 use Rattle.model.specs.Demands.{Allowed}
+use Rattle.model.specs.Sheet.{openOutcome, printOutcome}
 use Rattle.schedule.specs.declared.Verdict.{Verdict}
 use Rattle.schedule.specs.declared.Verdict.the-variants as verdict
 use Rattle.least.specs.declared.Figures.{Figures}
@@ -21,15 +30,98 @@ use Rattle.least.specs.declared.Figures.the-variants as figures
 use Rattle.least.specs.declared.Tabled.the-variants as tabled
 use Rattle.lookup.specs.declared.Found.{Found}
 use Rattle.lookup.specs.declared.Found.the-variants as found
+use Rattle.hrd.specs.Outcome.{paramsOf}
+use Rattle.hrd.specs.declared.Params.{Params}
+use Rattle.planner.specs.declared.PlannerJudgement.{PlannerJudgement}
+use Rattle.planner.specs.declared.PlannerVerdict.{PlannerVerdict}
+use Rattle.planner.specs.declared.PlannerBucket.{PlannerBucket}
+use Rattle.planner.specs.declared.PlannerSeconds.{PlannerSeconds}
+use Rattle.planner.specs.declared.PlannerReading.{PlannerReading}
+use Rattle.planner.specs.declared.PlannerRead.{PlannerRead}
+use Rattle.planner.specs.declared.PlannerPosition.{PlannerPosition}
+use Rattle.planner.specs.declared.PlannerSheet.{PlannerSheet}
+use Rattle.planner.specs.declared.PlannerText.{PlannerText}
+use Rattle.claims.specs.Exports.{ExportedJudge, ExportedVerdict, ExportedSchedule, ExportedLeast, ExportedTable, ExportedLookup, ExportedSeconds, ExportedPanel, ExportedRead, ExportedWrite, ExportedRow, ExportedOpen, ExportedPrint}
 use Rattle.claims.specs.Promises.{VerdictPromise, LeastPromise, TablePromise, LookupPromise}
 
--- whatever the recording, where the least figures are not refused and b, f are a bucket
+-- Demand 1. "Any bytes, any lists, any numbers get an answer. .. a refusal gives its number and place, zeros for results, and writes
+-- nothing in the caller's lists." Clear is what a refusal leaves: all figures 0, every lent list as it was.
+pub record Told {A : Type 0} (a : Answer A) (kind number place : ℕ) (Clear : Type 0) : Type 0 where
+  pub answers : (x : A) → a ≡ given x → (1 ≤ kind) × (number ≡ 0) × (place ≡ 0)
+  pub refuses : (n i : ℕ) → a ≡ refused n i → (kind ≡ 0) × (number ≡ n) × (place ≡ i) × Clear
+
+abbrev pub Demand1Judge : Type 0
+Demand1Judge = (k : Recording) (r : PlannerJudgement) → ExportedJudge k r → Told (judgeOutcome k) (r .kind) (r .number) (r .place) (Unit {0})
+
+abbrev pub Demand1Verdict : Type 0
+Demand1Verdict =
+    (k : Recording) (u : Bucket) (r : PlannerVerdict) → ExportedVerdict k u r
+    → Told (verdictOutcome k u) (r .kind) (r .number) (r .place) ((r .picture ≡ 0) × (r .units ≡ 0))
+
+abbrev pub Demand1Schedule : Type 0
+Demand1Schedule =
+    (k : Recording) (u : Bucket) (at : ℕ) (l m : List ℕ) (r : PlannerVerdict) (starts ends : List ℕ) → ExportedSchedule k u at l m r starts ends
+    → Told (scheduleOutcome k u at l m .answer) (r .kind) (r .number) (r .place) ((r .picture ≡ 0) × (r .units ≡ 0) × (starts ≡ l) × (ends ≡ m))
+
+abbrev pub Demand1Least : Type 0
+Demand1Least =
+    (k : Recording) (rate : ℕ) (r : PlannerBucket) → ExportedLeast k rate r
+    → Told (leastOutcome k rate) (r .kind) (r .number) (r .place) ((r .buffer ≡ 0) × (r .fullness ≡ 0))
+
+abbrev pub Demand1Table : Type 0
+Demand1Table =
+    (k : Recording) (rates : List ℕ) (at : ℕ) (l m : List ℕ) (r : PlannerJudgement) (buffers fulls : List ℕ)
+    → ExportedTable k rates at l m r buffers fulls
+    → Told (tableOutcome k rates at l m .answer) (r .kind) (r .number) (r .place) ((buffers ≡ l) × (fulls ≡ m))
+
+abbrev pub Demand1Lookup : Type 0
+Demand1Lookup =
+    (w : Table) (rate : ℕ) (r : PlannerBucket) → ExportedLookup w rate r
+    → Told (lookupOutcome w rate) (r .kind) (r .number) (r .place) ((r .buffer ≡ 0) × (r .fullness ≡ 0))
+
+abbrev pub Demand1Seconds : Type 0
+Demand1Seconds =
+    (u : Bucket) (r : PlannerSeconds) → ExportedSeconds u r
+    → Told (secondsOutcome u) (r .kind) (r .number) (r .place) ((r .wait ≡ zeroSeconds) × (r .fill ≡ zeroSeconds))
+
+abbrev pub Demand1Panel : Type 0
+Demand1Panel =
+    (u : Bucket) (limit : Float) (r : PlannerReading) → ExportedPanel u limit r
+    → Told (panelOutcome u limit) (r .kind) (r .number) (r .place) ((r .wait ≡ zeroSeconds) × (r .limit ≡ zeroSeconds))
+
+abbrev pub Demand1Read : Type 0
+Demand1Read =
+    (bytes : List ℕ) (start : ℕ) (r : PlannerRead) → ExportedRead bytes start r
+    → Told (readOutcome bytes start .answer) (r .kind) (r .number) (r .place) ((r .next ≡ 0) × (paramsOf (r .params) ≡ zeroParams))
+
+abbrev pub Demand1Write : Type 0
+Demand1Write =
+    (p : Params) (bytes : List ℕ) (start : ℕ) (r : PlannerPosition) (after : List ℕ) → ExportedWrite p bytes start r after
+    → Told (writeOutcome (paramsOf p) bytes start .answer) (r .kind) (r .number) (r .place) ((r .next ≡ 0) × (after ≡ bytes))
+
+abbrev pub Demand1Row : Type 0
+Demand1Row =
+    (k : Recording) (p : Params) (row fullness : ℕ) (r : PlannerVerdict) → ExportedRow k p row fullness r
+    → Told (rowVerdictOutcome k (paramsOf p) row fullness) (r .kind) (r .number) (r .place) ((r .picture ≡ 0) × (r .units ≡ 0))
+
+abbrev pub Demand1Open : Type 0
+Demand1Open =
+    (bytes l m n : List ℕ) (r : PlannerSheet) (sizes ticks rates : List ℕ) → ExportedOpen bytes l m n r sizes ticks rates
+    → Told (openOutcome bytes l m n .answer) (r .kind) (r .number) (r .place)
+    ((r .pictures ≡ 0) × (r .rates ≡ 0) × (r .ts ≡ 0) × (r .nu ≡ 0) × (sizes ≡ l) × (ticks ≡ m) × (rates ≡ n))
+
+abbrev pub Demand1Print : Type 0
+Demand1Print =
+    (bytes l : List ℕ) (r : PlannerText) (text : List ℕ) → ExportedPrint bytes l r text
+    → Told (printOutcome bytes l .answer) (r .kind) (r .number) (r .place) ((r .length ≡ 0) × (text ≡ l))
+
+-- Demand 2. whatever the recording, where the least figures are not refused and b, f are a bucket
 abbrev pub Demand2Answers : Type 0
 Demand2Answers =
     (k : Recording) (rate b f leastB leastF : ℕ) (v : Verdict) → badBucket b f ≡ false → VerdictPromise k (bucket rate b f) v
     → LeastPromise k rate (figures.Least leastB leastF) → (v ≡ verdict.Holds) ↔ ((leastB ≤ b) × (leastF ≤ f))
 
--- what the planner answers at a rate r between two neighbouring rows, ends included
+-- Demand 3. what the planner answers at a rate r between two neighbouring rows, ends included
 pub record Between (k : Recording) (ra rb r : ℕ) (a : Found) (v : ℕ → ℕ → Verdict → Type 0) (l : Figures → Type 0) : Type 0 where
   pub buffer : ℕ
   pub fullness : ℕ

@@ -12,6 +12,8 @@
 --     ReadPromise       hrd::read_params
 --     WritePromise      hrd::write_params, with its bytes afterwards
 --     RowPromise        verdict::row_verdict
+--     OpenPromise       sheet::open_sheet, with its three lists afterwards
+--     PrintPromise      sheet::print_sheet, with its bytes afterwards
 -- Assumes nothing.
 use Prim.Native.Nat.{ℕ}
 use mathlib.Core.Path.{_≡_}
@@ -23,6 +25,7 @@ use Rattle.model.specs.Lookup.{Table}
 use Rattle.model.specs.Outcomes.{judgeOutcome, verdictOutcome, scheduleOutcome, leastOutcome, tableOutcome, lookupOutcome}
 use Rattle.model.specs.Panel.{secondsOutcome, panelOutcome}
 use Rattle.model.specs.Params.{paramsJudged, readOutcome, writeOutcome, rowVerdictOutcome}
+use Rattle.model.specs.Sheet.{openOutcome, printOutcome}
 use Rattle.recording.specs.Outcome.{judgementOf}
 use Rattle.recording.specs.declared.Judgement.{Judgement}
 use Rattle.schedule.specs.Outcome.{answerOf, scheduled}
@@ -40,6 +43,9 @@ use Rattle.hrd.specs.declared.Params.{Params}
 use Rattle.hrd.specs.declared.Judged.{Judged}
 use Rattle.hrd.specs.declared.Position.{Position}
 use Rattle.hrd.specs.declared.Found as read
+use Rattle.sheet.specs.Outcome.{opened, printed}
+use Rattle.sheet.specs.declared.Opened.{Opened}
+use Rattle.sheet.specs.declared.Printed.{Printed}
 
 abbrev pub JudgePromise : Recording → Judgement → Type 0
 JudgePromise k r = judgementOf r ≡ judgeOutcome k
@@ -76,3 +82,9 @@ WritePromise params bytes start r after = hrd.paramsWritten r after ≡ writeOut
 
 abbrev pub RowPromise : Recording → Params → (row fullness : ℕ) → Verdict → Type 0
 RowPromise k params row fullness r = answerOf r ≡ rowVerdictOutcome k (hrd.paramsOf params) row fullness
+
+abbrev pub OpenPromise : (bytes l m n : List ℕ) → Opened → (sizes ticks rates : List ℕ) → Type 0
+OpenPromise bytes l m n r sizes ticks rates = opened r sizes ticks rates ≡ openOutcome bytes l m n
+
+abbrev pub PrintPromise : (bytes l : List ℕ) → Printed → (text : List ℕ) → Type 0
+PrintPromise bytes l r text = printed r text ≡ printOutcome bytes l

@@ -8,6 +8,8 @@
 --     tableAnswer        a table's answer, with its two lists afterwards
 --     readAnswer         a record read and the next bit position
 --     writeAnswer        the next bit position, with the bytes afterwards
+--     openAnswer         what an opened sheet says, with its three lists afterwards
+--     printAnswer        how many bytes were printed, with the bytes afterwards
 -- Assumes nothing.
 use Prim.Native.Nat.{ℕ}
 use mathlib.Core.Path.{_≡_}
@@ -17,6 +19,7 @@ use Rattle.model.specs.Answers.{Answer, given, refused, Judgement}
 use Rattle.model.specs.Outcomes.{Scheduled, Tabled}
 use Rattle.model.specs.Panel.{Seconds, Reading, within, over, zeroSeconds}
 use Rattle.model.specs.Params.{ParamsRead, ParamsWritten}
+use Rattle.model.specs.Sheet.{Head, Opened, Printed}
 use Rattle.hrd.specs.Outcome.{paramsOf}
 use Rattle.planner.specs.declared.PlannerJudgement.{PlannerJudgement}
 use Rattle.planner.specs.declared.PlannerVerdict.{PlannerVerdict}
@@ -25,6 +28,8 @@ use Rattle.planner.specs.declared.PlannerSeconds.{PlannerSeconds}
 use Rattle.planner.specs.declared.PlannerReading.{PlannerReading}
 use Rattle.planner.specs.declared.PlannerRead.{PlannerRead}
 use Rattle.planner.specs.declared.PlannerPosition.{PlannerPosition}
+use Rattle.planner.specs.declared.PlannerSheet.{PlannerSheet}
+use Rattle.planner.specs.declared.PlannerText.{PlannerText}
 
 abbrev pub judgementAnswer : Judgement → PlannerJudgement
 judgementAnswer (given a) = record { kind = 1; number = 0; place = 0 }
@@ -72,3 +77,19 @@ readAnswer r t = (positionRead r ≡ positionAnswer (t .answer)) × (paramsOf (r
 
 abbrev pub writeAnswer : PlannerPosition → (bytes : List ℕ) → ParamsWritten → Type 0
 writeAnswer r bytes t = (r ≡ positionAnswer (t .answer)) × (bytes ≡ t .bytes)
+
+abbrev pub sheetAnswer : Answer Head → PlannerSheet
+sheetAnswer (given h) =
+    record { kind = 1; number = 0; place = 0; pictures = h .pictures; rates = h .rates; ts = h .ts; nu = h .nu }
+sheetAnswer (refused n i) = record { kind = 0; number = n; place = i; pictures = 0; rates = 0; ts = 0; nu = 0 }
+
+abbrev pub openAnswer : PlannerSheet → (sizes ticks rates : List ℕ) → Opened → Type 0
+openAnswer r sizes ticks rates t =
+    (r ≡ sheetAnswer (t .answer)) × (sizes ≡ t .sizes) × (ticks ≡ t .ticks) × (rates ≡ t .rates)
+
+abbrev pub textAnswer : Answer ℕ → PlannerText
+textAnswer (given n) = record { kind = 1; number = 0; place = 0; length = n }
+textAnswer (refused n i) = record { kind = 0; number = n; place = i; length = 0 }
+
+abbrev pub printAnswer : PlannerText → (text : List ℕ) → Printed → Type 0
+printAnswer r text t = (r ≡ textAnswer (t .answer)) × (text ≡ t .text)

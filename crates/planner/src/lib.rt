@@ -9,6 +9,8 @@ use panel::Reading;
 use panel::Timed;
 use recording::Judgement;
 use schedule::Verdict;
+use sheet::Opened;
+use sheet::Printed;
 ghost use mathlib.Core.Path.{_≡_};
 ghost use Rattle.model.specs.Recording.{recording};
 ghost use Rattle.model.specs.Arrival.{bucket};
@@ -16,9 +18,10 @@ ghost use Rattle.model.specs.Lookup.{table};
 ghost use Rattle.model.specs.Outcomes.{judgeOutcome, verdictOutcome, scheduleOutcome, leastOutcome, tableOutcome, lookupOutcome};
 ghost use Rattle.model.specs.Panel.{secondsOutcome, panelOutcome};
 ghost use Rattle.model.specs.Params.{readOutcome, writeOutcome, rowVerdictOutcome};
+ghost use Rattle.model.specs.Sheet.{openOutcome, printOutcome};
 ghost use Rattle.schedule.specs.Outcome.{answerOf};
 ghost use Rattle.hrd.specs.Outcome.{paramsOf};
-ghost use Rattle.planner.specs.Answers.{judgementAnswer, verdictAnswer, scheduleAnswer, bucketAnswer, secondsAnswer, readingAnswer, tableAnswer, readAnswer, writeAnswer};
+ghost use Rattle.planner.specs.Answers.{judgementAnswer, verdictAnswer, scheduleAnswer, bucketAnswer, secondsAnswer, readingAnswer, tableAnswer, readAnswer, writeAnswer, openAnswer, printAnswer};
 
 // Passed (kind 1), or refused.
 #[repr(C)]
@@ -85,6 +88,27 @@ pub struct PlannerPosition {
     pub number: u64,
     pub place: u64,
     pub next: u64,
+}
+
+// How many pictures and rates a sheet has, and its clock (kind 1), or refused.
+#[repr(C)]
+pub struct PlannerSheet {
+    pub kind: u64,
+    pub number: u64,
+    pub place: u64,
+    pub pictures: u64,
+    pub rates: u64,
+    pub ts: u64,
+    pub nu: u64,
+}
+
+// How many bytes were printed (kind 1), or refused.
+#[repr(C)]
+pub struct PlannerText {
+    pub kind: u64,
+    pub number: u64,
+    pub place: u64,
+    pub length: u64,
 }
 
 // Judges a recording and its clock.
@@ -395,4 +419,59 @@ pub extern "C" fn planner_row_verdict(
     ensures { λ r. ⌜ r ≡ verdictAnswer (rowVerdictOutcome (recording (now (sizes .entry)) (now (ticks .entry)) ts nu) (paramsOf params) row fullness) ⌝ }
 {
     verdict_struct(verdict::row_verdict(sizes, ticks, ts, nu, params, row, fullness))
+}
+
+// Opens a sheet: writes its sizes, ticks and rates to the first entries of three lent lists.
+#[no_mangle]
+pub extern "C" fn planner_open_sheet(
+    bytes: &[u8],
+    sizes: &mut [u64],
+    ticks: &mut [u64],
+    rates: &mut [u64],
+) -> PlannerSheet
+    ensures { λ r. ⌜ openAnswer r (now (sizes .exit)) (now (ticks .exit)) (now (rates .exit)) (openOutcome (now (bytes .entry)) (now (sizes .entry)) (now (ticks .entry)) (now (rates .entry))) ⌝ }
+{
+    let opened = sheet::open_sheet(bytes, sizes, ticks, rates);
+    match opened {
+        Opened::Sheet(head) => PlannerSheet {
+            kind: 1,
+            number: 0,
+            place: 0,
+            pictures: head.pictures as u64,
+            rates: head.rates as u64,
+            ts: head.ts,
+            nu: head.nu,
+        },
+        Opened::Refused(number, place) => PlannerSheet {
+            kind: 0,
+            number: number as u64,
+            place: place as u64,
+            pictures: 0,
+            rates: 0,
+            ts: 0,
+            nu: 0,
+        },
+    }
+}
+
+// Prints what a sheet comes to, its table or its refusal line, to the front of a lent list of bytes.
+#[no_mangle]
+pub extern "C" fn planner_print_sheet(bytes: &[u8], text: &mut [u8]) -> PlannerText
+    ensures { λ r. ⌜ printAnswer r (now (text .exit)) (printOutcome (now (bytes .entry)) (now (text .entry))) ⌝ }
+{
+    let printed = sheet::print_sheet(bytes, text);
+    match printed {
+        Printed::Text(length) => PlannerText {
+            kind: 1,
+            number: 0,
+            place: 0,
+            length: length as u64,
+        },
+        Printed::Refused(number, place) => PlannerText {
+            kind: 0,
+            number: number as u64,
+            place: place as u64,
+            length: 0,
+        },
+    }
 }

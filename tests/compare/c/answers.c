@@ -1,5 +1,6 @@
 /* Prints every field of an answer of each kind, and of a refusal, of every operation, and what a
- * refused schedule and a refused writing of a record leave in their lent lists. */
+ * refused schedule, a refused writing of a record and a refused opening of a sheet leave in their
+ * lent lists. */
 #include <inttypes.h>
 #include <stdio.h>
 
@@ -11,6 +12,11 @@ static const uint64_t standing[4] = {0, 1, 1, 3};
 static const uint64_t rates[2] = {250, 1000};
 static const uint64_t rows[2] = {10250, 5000};
 static const uint64_t none[1] = {0};
+/* The recording above at 300 bits per second: 28 + 8 x 4 + 4 x 1 bytes. */
+static const uint8_t sheet[64] = {
+    4, 0, 0, 0, 28, 0, 0, 0, 44, 0, 0, 0, 1, 0, 0, 0, 60, 0, 0, 0, 1, 0, 0, 0, 1, 0, 0, 0,
+    100, 0, 0, 0, 100, 0, 0, 0, 0x84, 3, 0, 0, 100, 0, 0, 0, 0, 0, 0, 0, 1, 0, 0, 0, 2, 0, 0, 0,
+    3, 0, 0, 0, 0x2c, 1, 0, 0};
 
 static void head(const char *name, uint64_t kind, uint64_t number, uint64_t place) {
     printf("%s %" PRIu64 " %" PRIu64 " %" PRIu64, name, kind, number, place);
@@ -63,6 +69,16 @@ static void record_read(const char *name, PlannerRead r) {
     }
 }
 
+static void sheet_opened(const char *name, PlannerSheet r) {
+    head(name, r.kind, r.number, r.place);
+    printf(" %" PRIu64 " %" PRIu64 " %" PRIu64 " %" PRIu64 "\n", r.pictures, r.rates, r.ts, r.nu);
+}
+
+static void text(const char *name, PlannerText r, const uint8_t *bytes) {
+    head(name, r.kind, r.number, r.place);
+    printf(" %" PRIu64 "\n%.*s", r.length, (int)r.length, (const char *)bytes);
+}
+
 static void byte_list(const char *name, const uint8_t *bytes, size_t length) {
     printf("%s", name);
     for (size_t i = 0; i < length; i++) {
@@ -82,6 +98,8 @@ static void list(const char *name, const uint64_t *entries, size_t length) {
 int main(void) {
     uint64_t first[5] = {7, 7, 7, 7, 7};
     uint64_t second[6] = {8, 8, 8, 8, 8, 8};
+    uint64_t one[1] = {9};
+    uint8_t printed[80];
     uint8_t bytes[8] = {0xff, 0xff, 0xff, 0xff, 0xff, 0xff, 0xff, 0xff};
     PlannerParams params = {2, 1, 3, {4, 5}, {7, 6}, {0, 1}, 23, 22, 21, 24};
 
@@ -126,5 +144,16 @@ int main(void) {
     byte_list("bytes", bytes, 8);
     bytes[3] = 0xff;
     record_read("read_params", planner_read_params(bytes, 8, 3));
+    sheet_opened("open_sheet", planner_open_sheet(sheet, 64, first, 5, second, 6, one, 1));
+    list("sizes", first, 5);
+    list("ticks", second, 6);
+    list("rates", one, 1);
+    sheet_opened("open_sheet", planner_open_sheet(sheet, 63, first, 5, second, 6, one, 1));
+    sheet_opened("open_sheet", planner_open_sheet(sheet, 64, second, 6, first, 3, one, 1));
+    list("sizes", second, 6);
+    list("ticks", first, 5);
+    text("print_sheet", planner_print_sheet(sheet, 64, printed, 80), printed);
+    text("print_sheet", planner_print_sheet(sheet, 63, printed, 80), printed);
+    text("print_sheet", planner_print_sheet(sheet, 64, printed, 29), printed);
     return 0;
 }

@@ -1,10 +1,12 @@
-//! What the built library answers to a case.
+//! What the built library, or the built program, answers to a case.
 
-use crate::cases::{Asked, Case, Record, Rows};
+use crate::cases::{lend_bytes, lend_lists, Asked, Case, Record, Rows};
 use crate::outcome::{Answer, Outcome};
+use crate::program;
 use planner::{
-    judge, least, look_up, panel, read_params, row_verdict, schedule, seconds, table, verdict,
-    write_params, Bucket, Reading, Recording, Refused, Seconds, Table, Verdict,
+    judge, least, look_up, open_sheet, panel, print_sheet, read_params, row_verdict, schedule,
+    seconds, table, verdict, write_params, Bucket, Reading, Recording, Refused, Seconds, Sheet,
+    Table, Verdict,
 };
 
 pub fn outcome(case: &Case) -> Outcome {
@@ -47,6 +49,24 @@ pub fn outcome(case: &Case) -> Outcome {
             row,
             fullness,
         } => settled(row_verdict(&recording(rec), params, *row, *fullness), held).into(),
+        Case::OpenSheet { sheet, lists } => lend_lists(lists, |[sizes, ticks, rates]| {
+            settled(open_sheet(sheet, sizes, ticks, rates), opened)
+        }),
+        Case::PrintSheet { sheet, text } => lend_bytes(text, |text| {
+            settled(print_sheet(sheet, text), |length| Answer::Printed {
+                length: length as u64,
+            })
+        }),
+        Case::Plan { sheet } => Outcome::printed(&program::run(sheet)),
+    }
+}
+
+fn opened(sheet: Sheet) -> Answer {
+    Answer::Opened {
+        pictures: sheet.pictures as u64,
+        rates: sheet.rates as u64,
+        ts: sheet.ts,
+        nu: sheet.nu,
     }
 }
 

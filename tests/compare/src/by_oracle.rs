@@ -1,6 +1,6 @@
 //! What the independent second program answers to a case.
 
-use crate::cases::{Asked, Case, Record};
+use crate::cases::{lend_bytes, lend_lists, Asked, Case, Record};
 use crate::outcome::{Answer, Outcome};
 use oracle::bits::{read_params, row_verdict, write_params, Params, Row};
 use oracle::least::{least, table, Least};
@@ -8,6 +8,7 @@ use oracle::lookup::{look_up, Found};
 use oracle::panel::{panel, seconds, Reading, Seconds};
 use oracle::recording::{judge, Clock, Recording};
 use oracle::schedule::{schedule, verdict, Verdict};
+use oracle::sheet::{open_into, print, print_into, Sheet};
 use oracle::Refused;
 
 pub fn outcome(case: &Case) -> Outcome {
@@ -74,6 +75,22 @@ pub fn outcome(case: &Case) -> Outcome {
             let (rec, params) = (recording(rec), params_of(params));
             settled(row_verdict(&rec, &params, *row as u64, *fullness), held).into()
         }
+        Case::OpenSheet { sheet, lists } => lend_lists(lists, |[sizes, ticks, rates]| {
+            settled(open_into(sheet, sizes, ticks, rates), opened)
+        }),
+        Case::PrintSheet { sheet, text } => lend_bytes(text, |text| {
+            settled(print_into(sheet, text), |length| Answer::Printed { length })
+        }),
+        Case::Plan { sheet } => Outcome::printed(print(sheet).as_bytes()),
+    }
+}
+
+fn opened(sheet: Sheet) -> Answer {
+    Answer::Opened {
+        pictures: sheet.sizes.len() as u64,
+        rates: sheet.rates.len() as u64,
+        ts: sheet.clock.ts,
+        nu: sheet.clock.nu,
     }
 }
 

@@ -1,12 +1,18 @@
 //! The cases: one call of one operation each, made from a seed and a number alone.
 
+use crate::by_oracle::recording;
 use crate::damage::damage;
 use crate::draws;
 use crate::outcome::{Answer, Outcome};
+use oracle::sheet::make_sheet;
 use oracle::xorshift::XorShift;
 use planner::Params;
 
-pub const OPERATIONS: [&str; 11] = [
+/// The built program.
+const PROGRAM: &str = "plan";
+
+/// The library's operations.
+const OPERATIONS: [&str; 13] = [
     "judge",
     "verdict",
     "schedule",
@@ -18,10 +24,12 @@ pub const OPERATIONS: [&str; 11] = [
     "read_params",
     "write_params",
     "row_verdict",
+    "open_sheet",
+    "print_sheet",
 ];
 
 /// Entries on either side of a lent list that the operation is not lent.
-pub(crate) const MARGIN: usize = 2;
+pub const MARGIN: usize = 2;
 
 #[derive(Debug)]
 pub enum Case {
@@ -70,6 +78,19 @@ pub enum Case {
         row: usize,
         fullness: u64,
     },
+    /// The lists with their margins.
+    OpenSheet {
+        sheet: Vec<u8>,
+        lists: [Vec<u64>; 3],
+    },
+    /// The text with its margins.
+    PrintSheet {
+        sheet: Vec<u8>,
+        text: Vec<u8>,
+    },
+    Plan {
+        sheet: Vec<u8>,
+    },
 }
 
 #[derive(Debug)]
@@ -106,16 +127,7 @@ pub struct Lent {
 
 impl Lent {
     pub(crate) fn lend(&self, ask: impl FnOnce(&mut [u64], &mut [u64]) -> Answer) -> Outcome {
-        let [mut first, mut second] = self.lists.clone();
-        let (first_end, second_end) = (first.len() - MARGIN, second.len() - MARGIN);
-        let answer = ask(
-            &mut first[MARGIN..first_end],
-            &mut second[MARGIN..second_end],
-        );
-        Outcome {
-            answer,
-            lent: vec![first, second],
-        }
+        lend_lists(&self.lists, |[first, second]| ask(first, second))
     }
 }
 
@@ -129,24 +141,48 @@ pub struct Bytes {
 
 impl Bytes {
     pub(crate) fn lend(&self, ask: impl FnOnce(&mut [u8]) -> Answer) -> Outcome {
-        let mut list = self.list.clone();
-        let end = list.len() - MARGIN;
-        let answer = ask(&mut list[MARGIN..end]);
-        Outcome {
-            answer,
-            lent: vec![list.into_iter().map(u64::from).collect()],
-        }
+        lend_bytes(&self.list, ask)
     }
 }
 
-/// The operation that a case of this number is of, as an entry of `OPERATIONS`.
-pub fn operation(number: u64) -> usize {
-    (number % OPERATIONS.len() as u64) as usize
+pub(crate) fn lend_lists<const N: usize>(
+    lists: &[Vec<u64>; N],
+    ask: impl FnOnce([&mut [u64]; N]) -> Answer,
+) -> Outcome {
+    let mut lists = lists.clone();
+    let answer = ask(lists.each_mut().map(|list| between_margins(list)));
+    Outcome {
+        answer,
+        lent: lists.into(),
+    }
+}
+
+pub(crate) fn lend_bytes(list: &[u8], ask: impl FnOnce(&mut [u8]) -> Answer) -> Outcome {
+    let mut list = list.to_vec();
+    let answer = ask(between_margins(&mut list));
+    Outcome {
+        answer,
+        lent: vec![list.into_iter().map(u64::from).collect()],
+    }
+}
+
+fn between_margins<T>(list: &mut [T]) -> &mut [T] {
+    let end = list.len() - MARGIN;
+    &mut list[MARGIN..end]
+}
+
+/// The operation that a case of this number is of. A run of the program takes far longer than a call
+/// of the library, so one case in a thousand is one.
+pub fn operation(number: u64) -> &'static str {
+    if number % 1000 == 999 {
+        return PROGRAM;
+    }
+    OPERATIONS[(number % OPERATIONS.len() as u64) as usize]
 }
 
 pub fn case(seed: u64, number: u64) -> Case {
     let random = &mut stream(seed, number);
-    let mut case = valid(random, OPERATIONS[operation(number)]);
+    let mut case = valid(random, operation(number));
     if draws::one_in(random, 3) {
         for _ in 0..random.range(1, 3) {
             damage(random, &mut case);
@@ -230,6 +266,31 @@ fn valid(random: &mut XorShift, operation: &str) -> Case {
                 fullness,
             }
         }
+        "open_sheet" => {
+            let (rec, rates) = draws::sheet(random);
+            let lists = [rec.sizes.len(), rec.ticks.len(), rates.len()];
+            Case::OpenSheet {
+                lists: lists.map(|count| draws::room(random, count)),
+                sheet: sheet_bytes(&rec, &rates),
+            }
+        }
+        "print_sheet" => {
+            let (rec, rates) = draws::sheet(random);
+            Case::PrintSheet {
+                text: draws::text_room(random),
+                sheet: sheet_bytes(&rec, &rates),
+            }
+        }
+        PROGRAM => {
+            let (rec, rates) = draws::sheet(random);
+            Case::Plan {
+                sheet: sheet_bytes(&rec, &rates),
+            }
+        }
         other => unreachable!("{other} is no operation"),
     }
+}
+
+fn sheet_bytes(rec: &Record, rates: &[u64]) -> Vec<u8> {
+    make_sheet(&recording(rec), rates)
 }

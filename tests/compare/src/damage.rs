@@ -4,8 +4,8 @@
 use crate::cases::{Asked, Bytes, Case, Lent, Record, Rows, MARGIN};
 use crate::draws::{one_in, pick, rising};
 use oracle::limits::{
-    BUFFER_MAX, LENGTH_MAX, NU_MAX, PICTURES_MAX, RATES_MAX, RATE_MAX, RECORD_ROWS_MAX, SCALE_MAX,
-    SIZE_MAX, SPAN_MAX, TS_MAX, VALUE_MINUS1_MAX,
+    BUFFER_MAX, HEADER_BYTES, LENGTH_MAX, NU_MAX, PICTURES_MAX, RATES_MAX, RATE_MAX,
+    RECORD_ROWS_MAX, SCALE_MAX, SIZE_MAX, SPAN_MAX, TS_MAX, VALUE_MINUS1_MAX,
 };
 use oracle::xorshift::XorShift;
 use planner::Params;
@@ -52,6 +52,14 @@ pub fn damage(random: &mut XorShift, case: &mut Case) {
             1 => *row = pick(random, &[params.cpb_cnt, usize::MAX]),
             _ => *fullness = outside(random, BUFFER_MAX),
         },
+        Case::OpenSheet { lists, .. } if one_in(random, 4) => shorten(random, lists),
+        Case::OpenSheet { sheet, .. } | Case::PrintSheet { sheet, .. } | Case::Plan { sheet } => {
+            if first {
+                sheet_word(random, sheet)
+            } else {
+                sheet_length(random, sheet)
+            }
+        }
     }
 }
 
@@ -264,4 +272,47 @@ fn length_field(random: &mut XorShift, params: &mut Params) {
         2 => params.dpb_output_delay_length_minus1 = value,
         _ => params.time_offset_length = value,
     }
+}
+
+/// A word of the header, or of the lists, that is another.
+fn sheet_word(random: &mut XorShift, sheet: &mut [u8]) {
+    let words = sheet.len() as u64 / 4;
+    let Some(last) = words.checked_sub(1) else {
+        return;
+    };
+    let (header, any) = (random.range(0, last.min(6)), random.range(0, last));
+    let at = 4 * pick(random, &[header, any]) as usize;
+    let word = u32::from_le_bytes([sheet[at], sheet[at + 1], sheet[at + 2], sheet[at + 3]]);
+    let limits = [PICTURES_MAX, RATES_MAX, SIZE_MAX, TS_MAX, NU_MAX, RATE_MAX];
+    let limit = pick(random, &limits) as u32;
+    let near = [
+        word.wrapping_sub(1),
+        word.wrapping_add(1),
+        word.wrapping_add(4),
+    ];
+    let beside = pick(random, &near);
+    let other = pick(random, &[0, beside, beside, limit, limit + 1, u32::MAX]);
+    sheet[at..at + 4].copy_from_slice(&other.to_le_bytes());
+}
+
+/// A sheet that is cut, or goes on for a few bytes or for many.
+fn sheet_length(random: &mut XorShift, sheet: &mut Vec<u8>) {
+    let length = sheet.len() as u64;
+    let shorter = [
+        random.range(0, length),
+        random.range(0, HEADER_BYTES).min(length),
+        length.saturating_sub(1),
+    ];
+    let largest = HEADER_BYTES + 8 * PICTURES_MAX + 4 * RATES_MAX;
+    let longer = [length + 1, length + 4, largest + random.range(0, 2), 70_000];
+    let (shorter, longer) = (pick(random, &shorter), pick(random, &longer));
+    sheet.resize(pick(random, &[shorter, longer]) as usize, 0);
+}
+
+/// One of the lists that is too short.
+fn shorten(random: &mut XorShift, lists: &mut [Vec<u64>; 3]) {
+    let list = &mut lists[random.range(0, 2) as usize];
+    let length = (list.len() - 2 * MARGIN) as u64;
+    let shorter = random.range(0, length.saturating_sub(1)) as usize;
+    list.truncate(shorter + 2 * MARGIN);
 }

@@ -6,12 +6,15 @@ use oracle::bits::write_params;
 use oracle::least::least;
 use oracle::limits::{
     BUFFER_MAX, LENGTH_MAX, NU_MAX, PICTURES_MAX, RATES_MAX, RATE_MAX, RECORD_ROWS_MAX, SCALE_MAX,
-    SIZE_MAX, SPAN_MAX, TS_MAX, VALUE_MINUS1_MAX,
+    SIZE_MAX, SPAN_MAX, TEXT_MAX, TS_MAX, VALUE_MINUS1_MAX,
 };
 use oracle::panel::seconds;
 use oracle::xorshift::XorShift;
 use planner::Params;
 use std::collections::BTreeSet;
+
+/// The largest word of a sheet.
+const WORD_MAX: u64 = u32::MAX as u64;
 
 /// Recordings up to this length are planned by the oracle while a case is drawn.
 const SHORT: usize = 64;
@@ -136,15 +139,17 @@ pub fn asked(random: &mut XorShift) -> Asked {
 /// Two lists with room for so many entries, and some before and after them.
 pub fn lent(random: &mut XorShift, count: usize) -> Lent {
     let at = random.range(0, 3) as usize;
-    let mut list = || {
-        let after = random.range(0, 3) as usize;
-        let length = MARGIN + at + count + after + MARGIN;
-        (0..length).map(|_| random.draw()).collect()
-    };
     Lent {
         at,
-        lists: [list(), list()],
+        lists: [room(random, at + count), room(random, at + count)],
     }
+}
+
+/// A list with room for so many entries, and some after them.
+pub fn room(random: &mut XorShift, count: usize) -> Vec<u64> {
+    let after = random.range(0, 3) as usize;
+    let length = MARGIN + count + after + MARGIN;
+    (0..length).map(|_| random.draw()).collect()
 }
 
 pub fn rates(random: &mut XorShift) -> Vec<u64> {
@@ -324,6 +329,25 @@ pub fn bytes_for(random: &mut XorShift, params: &Params) -> Bytes {
         start,
         list: any_bytes(random, MARGIN + length + MARGIN),
     }
+}
+
+/// A recording and rates that a sheet can hold.
+pub fn sheet(random: &mut XorShift) -> (Record, Vec<u64>) {
+    let mut rec = record(random, 2000);
+    let latest = WORD_MAX - span(&rec);
+    let any = random.range(0, latest);
+    let (first, before) = (pick(random, &[0, any, latest]), rec.ticks[0]);
+    for tick in &mut rec.ticks {
+        *tick = *tick - before + first;
+    }
+    (rec, rates(random))
+}
+
+/// A list of bytes with room for most texts, or for some.
+pub fn text_room(random: &mut XorShift) -> Vec<u8> {
+    let some = random.range(0, 200);
+    let length = pick(random, &[some, TEXT_MAX, TEXT_MAX]) as usize;
+    any_bytes(random, MARGIN + length + MARGIN)
 }
 
 /// The bytes of a record, or any bytes, half of these with few ones or none.

@@ -1,5 +1,5 @@
 //! The built library against the independent second program: random cases of every exported
-//! operation, and what each of the two answers to a case.
+//! operation and of the program, and what each of the two answers to a case.
 
 pub mod by_library;
 pub mod by_oracle;
@@ -7,3 +7,4 @@ pub mod cases;
 mod damage;
 mod draws;
 pub mod outcome;
+pub mod program;

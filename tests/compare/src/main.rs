@@ -1,8 +1,9 @@
-//! Runs random cases through the built library and through the second program, prints every
+//! Runs random cases through the built library and program and through the second program, prints every
 //! difference so that it can be run again, and fails if there was one.
 
-use compare::cases::{case, operation, OPERATIONS};
+use compare::cases::{case, operation};
 use compare::{by_library, by_oracle};
+use std::collections::BTreeMap;
 use std::process::ExitCode;
 use std::time::{Instant, SystemTime, UNIX_EPOCH};
 
@@ -25,17 +26,17 @@ fn main() -> ExitCode {
         None => 0..options.cases,
     };
     let count = numbers.end - numbers.start;
-    let mut counts = [0u64; OPERATIONS.len()];
+    let mut counts = BTreeMap::new();
     let mut differences = 0u64;
     let begun = Instant::now();
     for number in numbers {
-        counts[operation(number)] += 1;
+        *counts.entry(operation(number)).or_insert(0) += 1;
         if differs(options.seed, number, options.only.is_some()) {
             differences += 1;
         }
     }
     let took = begun.elapsed().as_secs_f64();
-    for (name, count) in OPERATIONS.iter().zip(counts) {
+    for (name, count) in counts {
         println!("{name} {count}");
     }
     println!(

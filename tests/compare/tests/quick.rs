@@ -1,7 +1,7 @@
 //! Random cases of every operation, the built library against the second program, and that these
 //! cases meet every kind of answer and every refusal.
 
-use compare::cases::{case, operation, OPERATIONS};
+use compare::cases::{case, operation};
 use compare::outcome::Answer;
 use compare::{by_library, by_oracle};
 use std::collections::BTreeSet;
@@ -10,7 +10,7 @@ const SEED: u64 = 20;
 const CASES: u64 = 220_000;
 
 /// What document 01, "When the planner says no", and the operation's own answers come to.
-const MET: [(&str, &[&str], &[u8]); 11] = [
+const MET: [(&str, &[&str], &[u8]); 14] = [
     ("judge", &["passed"], &[1, 2, 3, 4, 5]),
     ("verdict", &["holds", "late"], &[1, 2, 3, 4, 5, 6, 7]),
     ("schedule", &["holds", "late"], &[1, 2, 3, 4, 5, 6, 7, 8]),
@@ -26,6 +26,9 @@ const MET: [(&str, &[&str], &[u8]); 11] = [
         &["holds", "late"],
         &[1, 2, 3, 4, 5, 6, 7, 10, 11],
     ),
+    ("open_sheet", &["opened"], &[1, 3, 4, 5, 6, 8, 12]),
+    ("print_sheet", &["printed"], &[8]),
+    ("plan", &["printed"], &[]),
 ];
 
 fn name(answer: Answer) -> String {
@@ -40,6 +43,8 @@ fn name(answer: Answer) -> String {
         Answer::Over { .. } => "over",
         Answer::Read { .. } => "read",
         Answer::Written { .. } => "written",
+        Answer::Opened { .. } => "opened",
+        Answer::Printed { .. } => "printed",
     };
     kind.to_string()
 }
@@ -55,7 +60,7 @@ fn library_and_oracle_agree() {
             by_library, by_oracle,
             "--seed {SEED} --only {number}: {case:?}"
         );
-        met.insert((OPERATIONS[operation(number)], name(by_oracle.answer)));
+        met.insert((operation(number), name(by_oracle.answer)));
     }
 
     let mut expected = BTreeSet::new();

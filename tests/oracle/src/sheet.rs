@@ -3,7 +3,7 @@
 
 use crate::least::table;
 use crate::limits::{HEADER_BYTES, PICTURES_MAX};
-use crate::ranges::{judge_rate_count, judge_rates};
+use crate::ranges::{judge_rate_count, judge_rates, judge_room};
 use crate::recording::{judge, Clock, Recording};
 use crate::refused::{refuse, Refused};
 
@@ -63,6 +63,36 @@ fn recording_of(sheet: &Sheet) -> Recording<'_> {
         ticks: &sheet.ticks,
         clock: sheet.clock,
     }
+}
+
+/// Opens a sheet into three lent lists, from their first entries on; room (8) is judged last.
+pub fn open_into(
+    bytes: &[u8],
+    sizes: &mut [u64],
+    ticks: &mut [u64],
+    rates: &mut [u64],
+) -> Result<Sheet, Refused> {
+    let sheet = open_sheet(bytes)?;
+    let mut lists = [
+        (sizes, &sheet.sizes),
+        (ticks, &sheet.ticks),
+        (rates, &sheet.rates),
+    ];
+    for (lent, words) in &lists {
+        judge_room(lent.len(), 0, words.len())?;
+    }
+    for (lent, words) in &mut lists {
+        lent[..words.len()].copy_from_slice(words);
+    }
+    Ok(sheet)
+}
+
+/// Prints to the front of a lent list and gives the number of bytes; too little room is 8.
+pub fn print_into(bytes: &[u8], text: &mut [u8]) -> Result<u64, Refused> {
+    let printed = print(bytes);
+    judge_room(text.len(), 0, printed.len())?;
+    text[..printed.len()].copy_from_slice(printed.as_bytes());
+    Ok(printed.len() as u64)
 }
 
 /// The whole output of the program for that input, every line ended by a newline, the refusal
