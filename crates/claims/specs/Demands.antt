@@ -115,13 +115,16 @@ Demand1Print =
     (bytes l : List ℕ) (r : PlannerText) (text : List ℕ) → ExportedPrint bytes l r text
     → Told (printOutcome bytes l .answer) (r .kind) (r .number) (r .place) ((r .length ≡ 0) × (text ≡ l))
 
--- Demand 2. whatever the recording, where the least figures are not refused and b, f are a bucket
+-- Demand 2. "A bucket with fullness no larger than its buffer is judged to hold the recording exactly when both are at least those two
+-- figures": whatever the recording, where the least figures are not refused and b, f are a bucket.
 abbrev pub Demand2Answers : Type 0
 Demand2Answers =
     (k : Recording) (rate b f leastB leastF : ℕ) (v : Verdict) → badBucket b f ≡ false → VerdictPromise k (bucket rate b f) v
     → LeastPromise k rate (figures.Least leastB leastF) → (v ≡ verdict.Holds) ↔ ((leastB ≤ b) × (leastF ≤ f))
 
--- Demand 3. what the planner answers at a rate r between two neighbouring rows, ends included
+-- Demand 3. "r from a to b: buffer and fullness interpolated straight and rounded up hold the recording at r, and each exceeds the least
+-- figure at r by less than 2 bits plus the duration in seconds .. times (r-a)(b-r)/(b-a)": what the planner answers at a rate r between
+-- two neighbouring rows, ends included.
 pub record Between (k : Recording) (ra rb r : ℕ) (a : Found) (v : ℕ → ℕ → Verdict → Type 0) (l : Figures → Type 0) : Type 0 where
   pub buffer : ℕ
   pub fullness : ℕ
