@@ -8,25 +8,29 @@ use oracle::sheet::make_sheet;
 use oracle::xorshift::XorShift;
 use planner::Params;
 
-/// The built program.
-const PROGRAM: &str = "plan";
+/// An operation's name, and how a case of it is drawn: without a fault, but for the limit of a panel,
+/// which may be any double, and the bytes of a record to read, which may be any bytes.
+type Operation = (&'static str, fn(&mut XorShift) -> Case);
 
 /// The library's operations.
-const OPERATIONS: [&str; 13] = [
-    "judge",
-    "verdict",
-    "schedule",
-    "least",
-    "table",
-    "look_up",
-    "seconds",
-    "panel",
-    "read_params",
-    "write_params",
-    "row_verdict",
-    "open_sheet",
-    "print_sheet",
+const OPERATIONS: [Operation; 13] = [
+    ("judge", judge),
+    ("verdict", verdict),
+    ("schedule", schedule),
+    ("least", least),
+    ("table", table),
+    ("look_up", look_up),
+    ("seconds", seconds),
+    ("panel", panel),
+    ("read_params", read_params),
+    ("write_params", write_params),
+    ("row_verdict", row_verdict),
+    ("open_sheet", open_sheet),
+    ("print_sheet", print_sheet),
 ];
+
+/// The built program.
+const PROGRAM: Operation = ("plan", plan);
 
 /// Entries on either side of a lent list that the operation is not lent.
 pub const MARGIN: usize = 2;
@@ -171,9 +175,14 @@ fn between_margins<T>(list: &mut [T]) -> &mut [T] {
     &mut list[MARGIN..end]
 }
 
-/// The operation that a case of this number is of. A run of the program takes far longer than a call
-/// of the library, so one case in a thousand is one.
+/// The name of the operation that a case of this number is of.
 pub fn operation(number: u64) -> &'static str {
+    numbered(number).0
+}
+
+/// A run of the program takes far longer than a call of the library, so one case in a thousand is
+/// one.
+fn numbered(number: u64) -> Operation {
     if number % 1000 == 999 {
         return PROGRAM;
     }
@@ -182,7 +191,8 @@ pub fn operation(number: u64) -> &'static str {
 
 pub fn case(seed: u64, number: u64) -> Case {
     let random = &mut stream(seed, number);
-    let mut case = valid(random, operation(number));
+    let (_, draw) = numbered(number);
+    let mut case = draw(random);
     if draws::one_in(random, 3) {
         for _ in 0..random.range(1, 3) {
             damage(random, &mut case);
@@ -203,91 +213,102 @@ fn stream(seed: u64, number: u64) -> XorShift {
     XorShift::new(state.max(1))
 }
 
-/// A case without a fault, but for the limit of a panel, which may be any double, and the bytes of
-/// a record to read, which may be any bytes.
-fn valid(random: &mut XorShift, operation: &str) -> Case {
-    match operation {
-        "judge" => Case::Judge {
-            rec: draws::record(random, 200),
-        },
-        "verdict" => {
-            let rec = draws::record(random, 200);
-            let asked = draws::asked_of(random, &rec);
-            Case::Verdict { rec, asked }
-        }
-        "schedule" => {
-            let rec = draws::record(random, 200);
-            let asked = draws::asked_of(random, &rec);
-            let lent = draws::lent(random, rec.sizes.len());
-            Case::Schedule { rec, asked, lent }
-        }
-        "least" => {
-            let rec = draws::record(random, 2000);
-            let rate = draws::rate_of(random, &rec);
-            Case::Least { rec, rate }
-        }
-        "table" => {
-            let rec = draws::record(random, 2000);
-            let rates = draws::rates(random);
-            let lent = draws::lent(random, rates.len());
-            Case::Table { rec, rates, lent }
-        }
-        "look_up" => {
-            let rows = draws::rows(random);
-            let rate = draws::rate_beside(random, &rows.rates);
-            Case::LookUp { rows, rate }
-        }
-        "seconds" => Case::Seconds {
-            asked: draws::asked(random),
-        },
-        "panel" => {
-            let asked = draws::asked(random);
-            let limit = draws::limit(random, &asked);
-            Case::Panel { asked, limit }
-        }
-        "read_params" => Case::ReadParams {
-            lent: draws::record_bytes(random),
-        },
-        "write_params" => {
-            let params = Box::new(draws::params(random));
-            let lent = draws::bytes_for(random, &params);
-            Case::WriteParams { params, lent }
-        }
-        "row_verdict" => {
-            let rec = draws::record(random, 200);
-            let asked = draws::asked_of(random, &rec);
-            let params = Box::new(draws::params_for(random, &asked));
-            let row = random.range(0, params.cpb_cnt as u64 - 1) as usize;
-            let fullness = asked.fullness;
-            Case::RowVerdict {
-                rec,
-                params,
-                row,
-                fullness,
-            }
-        }
-        "open_sheet" => {
-            let (rec, rates) = draws::sheet(random);
-            let lists = [rec.sizes.len(), rec.ticks.len(), rates.len()];
-            Case::OpenSheet {
-                lists: lists.map(|count| draws::room(random, count)),
-                sheet: sheet_bytes(&rec, &rates),
-            }
-        }
-        "print_sheet" => {
-            let (rec, rates) = draws::sheet(random);
-            Case::PrintSheet {
-                text: draws::text_room(random),
-                sheet: sheet_bytes(&rec, &rates),
-            }
-        }
-        PROGRAM => {
-            let (rec, rates) = draws::sheet(random);
-            Case::Plan {
-                sheet: sheet_bytes(&rec, &rates),
-            }
-        }
-        other => unreachable!("{other} is no operation"),
+fn judge(random: &mut XorShift) -> Case {
+    Case::Judge {
+        rec: draws::record(random, 200),
+    }
+}
+
+fn verdict(random: &mut XorShift) -> Case {
+    let rec = draws::record(random, 200);
+    let asked = draws::asked_of(random, &rec);
+    Case::Verdict { rec, asked }
+}
+
+fn schedule(random: &mut XorShift) -> Case {
+    let rec = draws::record(random, 200);
+    let asked = draws::asked_of(random, &rec);
+    let lent = draws::lent(random, rec.sizes.len());
+    Case::Schedule { rec, asked, lent }
+}
+
+fn least(random: &mut XorShift) -> Case {
+    let rec = draws::record(random, 2000);
+    let rate = draws::rate_of(random, &rec);
+    Case::Least { rec, rate }
+}
+
+fn table(random: &mut XorShift) -> Case {
+    let rec = draws::record(random, 2000);
+    let rates = draws::rates(random);
+    let lent = draws::lent(random, rates.len());
+    Case::Table { rec, rates, lent }
+}
+
+fn look_up(random: &mut XorShift) -> Case {
+    let rows = draws::rows(random);
+    let rate = draws::rate_beside(random, &rows.rates);
+    Case::LookUp { rows, rate }
+}
+
+fn seconds(random: &mut XorShift) -> Case {
+    Case::Seconds {
+        asked: draws::asked(random),
+    }
+}
+
+fn panel(random: &mut XorShift) -> Case {
+    let asked = draws::asked(random);
+    let limit = draws::limit(random, &asked);
+    Case::Panel { asked, limit }
+}
+
+fn read_params(random: &mut XorShift) -> Case {
+    Case::ReadParams {
+        lent: draws::record_bytes(random),
+    }
+}
+
+fn write_params(random: &mut XorShift) -> Case {
+    let params = Box::new(draws::params(random));
+    let lent = draws::bytes_for(random, &params);
+    Case::WriteParams { params, lent }
+}
+
+fn row_verdict(random: &mut XorShift) -> Case {
+    let rec = draws::record(random, 200);
+    let asked = draws::asked_of(random, &rec);
+    let params = Box::new(draws::params_for(random, &asked));
+    let row = random.range(0, params.cpb_cnt as u64 - 1) as usize;
+    Case::RowVerdict {
+        rec,
+        params,
+        row,
+        fullness: asked.fullness,
+    }
+}
+
+fn open_sheet(random: &mut XorShift) -> Case {
+    let (rec, rates) = draws::sheet(random);
+    let counts = [rec.sizes.len(), rec.ticks.len(), rates.len()];
+    Case::OpenSheet {
+        lists: counts.map(|count| draws::room(random, count)),
+        sheet: sheet_bytes(&rec, &rates),
+    }
+}
+
+fn print_sheet(random: &mut XorShift) -> Case {
+    let (rec, rates) = draws::sheet(random);
+    Case::PrintSheet {
+        text: draws::text_room(random),
+        sheet: sheet_bytes(&rec, &rates),
+    }
+}
+
+fn plan(random: &mut XorShift) -> Case {
+    let (rec, rates) = draws::sheet(random);
+    Case::Plan {
+        sheet: sheet_bytes(&rec, &rates),
     }
 }
 
