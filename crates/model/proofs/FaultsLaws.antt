@@ -5,6 +5,7 @@
 --     recordingFaults-ascending, verdictFaults-ascending, scheduleFaults-ascending, leastFaults-ascending,
 --     tableFaults-ascending, lookupFaults-ascending, secondsFaults-ascending
 --                              the checks of an operation stand in the order of their numbers, so that the lowest is the first
+--     roomCheck-passed         a list with room passes
 --     judge-first              so a recording's refusal is the first
 --     faults-after             and after those of a recording further checks are judged where the recording passes
 --     verdictFaults-first      so a rate and a bucket are judged after the recording
@@ -30,9 +31,9 @@ use Rattle.model.specs.Recording.{Recording, Recorded, Within, pictures,
 use Rattle.model.specs.Arrival.{Bucket}
 use Rattle.model.specs.Lookup.{Table}
 use Rattle.model.specs.Answers.{Judgement, passed, orElse, lowest, first}
-use Rattle.model.specs.Faults.{outside, picturesCheck, lengthsCheck, clockCheck, badClock, sizeCheck, badSize, entryBefore, badTick, tickCheck, badRate, badRateAt, rateListCheck, RatesWithin, recordingFaults, verdictFaults, scheduleFaults, leastFaults, tableFaults, lookupFaults, secondsFaults}
+use Rattle.model.specs.Faults.{outside, picturesCheck, lengthsCheck, clockCheck, badClock, sizeCheck, badSize, entryBefore, badTick, tickCheck, badRate, badRateAt, rateListCheck, RatesWithin, roomCheck, recordingFaults, verdictFaults, scheduleFaults, leastFaults, tableFaults, lookupFaults, secondsFaults}
 use Rattle.model.specs.Outcomes.{judgeOutcome}
-use Rattle.model.proofs.AnswersLaws.{refuseIf-passed, first-passed, firstFault-passed, Ascending, none, test, list, lowest-first, orElse-passed, lowest-append}
+use Rattle.model.proofs.AnswersLaws.{refuseIf-passed, test-false, first-passed, firstFault-passed, Ascending, none, test, list, lowest-first, orElse-passed, lowest-append}
 
 pub or-false : (a b : Bool) → (a || b ≡ false) ↔ ((a ≡ false) × (b ≡ false))
 or-false true b = (λ e. absurd (true≢false e), λ h. absurd (true≢false (h .0)))
@@ -49,6 +50,9 @@ entryBefore-more l i = rw add-one
 pub badTick-after : (ticks : List ℕ) (i : ℕ) → 1 ≤ i → badTick ticks i ≡ (leb (getD ticks i 0) (entryBefore ticks i) || ltb spanMax (getD ticks i 0 - getD ticks 0 0))
 badTick-after ticks zero h = absurd (not-suc-le-zero h)
 badTick-after ticks (suc i) h = refl
+
+pub roomCheck-passed : (l : List ℕ) (at n : ℕ) → at + n ≤ length l → roomCheck l at n ≡ passed
+roomCheck-passed l at n h = test-false refusal.room 0 (le-ltb (length l) (at + n) h)
 
 pub recordingFaults-ascending : (k : Recording) {js : List Judgement} → Ascending refusal.tick js → Ascending refusal.pictures (recordingFaults k ++ js)
 recordingFaults-ascending k h =

@@ -15,7 +15,7 @@ use mathlib.Core.Bool.{true, not}
 use mathlib.Core.List.{List, [], _∷_}
 use lib.Dec.{ltb, eqb}
 use lib.ListN.{length, take}
-use borrow.Author.Tests.{le-ltb, eq-eqb}
+use borrow.Author.Tests.{eq-eqb}
 use Rattle.rules.specs.Limits.{headerBytes, sheetPicturesMax, rowsMax}
 use Rattle.rules.specs.Refusals as refusal
 use Rattle.model.specs.Numbers.{written}
@@ -26,7 +26,8 @@ use Rattle.model.specs.Outcomes.{judgeOutcome}
 use Rattle.model.specs.Sheet as sheet
 use Rattle.model.specs.Sheet.{wordsAt, pictureCount, rateCount, sizesOffset, ticksOffset, ratesOffset, clockScale, clockUnits, sheetRates, sheetRecording, misplaced, headerFaults, listFaults, openFaults, openOutcome}
 use Rattle.model.proofs.NumbersLaws.{listOf-length, written-front, written-fits}
-use Rattle.model.proofs.AnswersLaws.{first-append, test-true, test-false, firstFault-found, firstFault-none, answer-refuses}
+use Rattle.model.proofs.AnswersLaws.{first-append, test-true, firstFault-found, firstFault-none, answer-refuses}
+use Rattle.model.proofs.FaultsLaws.{roomCheck-passed}
 use Rattle.model.proofs.SheetLaws.{misplaced-true, misplaced-false, headerFaults-laid, listFaults-first}
 use Rattle.sheet.specs.declared.Head.{Head}
 use Rattle.sheet.specs.declared.Opened.{Opened}
@@ -108,7 +109,7 @@ module _ (bytes : List ℕ) (k : Recording) (read : k ≡ sheetRecording bytes) 
 
 module _ (bytes l m r : List ℕ) where
   -- the checks of the room in the three lists
-  abbrev rooms : List Judgement
+  abbrev pub rooms : List Judgement
   rooms = roomCheck l 0 (pictureCount bytes) ∷ roomCheck m 0 (pictureCount bytes) ∷ roomCheck r 0 (rateCount bytes) ∷ []
 
   after : first (openFaults bytes l m r) ≡ orElse (first (headerFaults bytes)) (first (lowest (listFaults bytes) ∷ rooms))
@@ -137,7 +138,7 @@ module _ (bytes l m r : List ℕ) where
 
       module _ (sizesRoom : 0 + head .pictures ≤ length l) where
         sizes-passed : roomCheck l 0 (pictureCount bytes) ≡ passed
-        sizes-passed = test-false refusal.room 0 (le-ltb _ _ (rw (pictures bytes head said) at sizesRoom))
+        sizes-passed = roomCheck-passed l 0 _ (rw (pictures bytes head said) at sizesRoom)
 
         pub open-ticks : ltb (length m) (0 + head .pictures) ≡ true → opened (Refused refusal.room 0) l m r ≡ openOutcome bytes l m r
         unfolding first
@@ -148,7 +149,7 @@ module _ (bytes l m r : List ℕ) where
 
         module _ (ticksRoom : 0 + head .pictures ≤ length m) where
           ticks-passed : roomCheck m 0 (pictureCount bytes) ≡ passed
-          ticks-passed = test-false refusal.room 0 (le-ltb _ _ (rw (pictures bytes head said) at ticksRoom))
+          ticks-passed = roomCheck-passed m 0 _ (rw (pictures bytes head said) at ticksRoom)
 
           pub open-rates : ltb (length r) (0 + head .rates) ≡ true → opened (Refused refusal.room 0) l m r ≡ openOutcome bytes l m r
           unfolding first
@@ -172,7 +173,7 @@ module _ (bytes l m r : List ℕ) where
                 judged,
                 sizes-passed,
                 ticks-passed,
-                test-false refusal.room 0 (le-ltb _ _ (rw (rates bytes head said) at ratesRoom)),
+                roomCheck-passed r 0 _ (rw (rates bytes head said) at ratesRoom),
                 es,
                 et,
                 er,

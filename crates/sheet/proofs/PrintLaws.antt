@@ -17,7 +17,6 @@ use mathlib.Core.Bool.{true, false}
 use mathlib.Core.List.{List, [], _∷_, map}
 use lib.Dec.{ltb, lit<}
 use lib.ListN.{length, getD, take}
-use borrow.Author.Tests.{le-ltb}
 use Rattle.rules.specs.Limits.{headerBytes, sheetPicturesMax, rowsMax, bucketMax, textMax}
 use Rattle.rules.specs.Refusals as refusal
 use Rattle.model.specs.Numbers.{written}
@@ -32,7 +31,7 @@ use Rattle.model.specs.Sheet as sheet
 use Rattle.model.specs.Sheet.{wordAt, pictureCount, rateCount, sheetSizes, sheetTicks, sheetRates, sheetRecording, headerFaults, listFaults, sheetFaults, openFaults, openOutcome, leastText, sheetText, printOutcome}
 use Rattle.model.proofs.NumbersLaws.{map-at, listOf-length, written-front, written-fits}
 use Rattle.model.proofs.AnswersLaws.{refuseIf-passed, orElse-passed, first-passed, first-append, none, test, list, test-false, test-true, answer-passed, answer-refuses}
-use Rattle.model.proofs.FaultsLaws.{outside-false, faults-after, judgeOutcome-within, rateList-within, within-recorded}
+use Rattle.model.proofs.FaultsLaws.{outside-false, roomCheck-passed, faults-after, judgeOutcome-within, rateList-within, within-recorded}
 use Rattle.model.proofs.LeastLaws.{leastFullness-buffer, leastBuffer-limit}
 use Rattle.model.proofs.TextLaws.{tableText-fits}
 use Rattle.model.proofs.SheetLaws.{Laid, headerFaults-laid, listFaults-first}
@@ -45,9 +44,7 @@ use Rattle.sheet.specs.declared.Opened.the-variants.{Sheet, Refused}
 use Rattle.sheet.specs.declared.Printed.{Printed}
 use Rattle.sheet.specs.declared.Printed.the-variants as printed-answer
 use Rattle.sheet.specs.Outcome.{headOf, openedOf, opened, printedOf, printed}
-
-room-passed : (l : List ℕ) (n : ℕ) → n ≤ length l → roomCheck l 0 n ≡ passed
-room-passed l n h = test-false refusal.room 0 (le-ltb (length l) (0 + n) (omega arith))
+use Rattle.sheet.proofs.OpenLaws.{rooms}
 
 -- a recording and rates that were judged
 module _ (k : Recording) (rates : List ℕ) (judged : judgeOutcome k ≡ passed) (counted : rateCountCheck rates ≡ passed) (listed : rateListCheck rates ≡ passed) where
@@ -78,7 +75,7 @@ module _ (k : Recording) (rates : List ℕ) (judged : judgeOutcome k ≡ passed)
         ∙ orElse-passed (judgeOutcome k) (first faults) .1 (
           judged,
           first-passed faults .1
-              (counted, (listed, (room-passed l (length rates) roomB, (room-passed m (length rates) roomF, tt)))),
+              (counted, (listed, (roomCheck-passed l 0 (length rates) (omega arith), (roomCheck-passed m 0 (length rates) (omega arith), tt)))),
         )
 
     module _ (r : Tabled) (b f : List ℕ) (p : tabled r b f ≡ tableOutcome k rates 0 l m) where
@@ -102,13 +99,10 @@ pub record Opens (bytes sizes ticks rates : List ℕ) (head : Head) : Type 0 whe
 
 -- lists with room for every sheet
 module _ (bytes l m r : List ℕ) (hl : sheetPicturesMax ≤ length l) (hm : sheetPicturesMax ≤ length m) (hr : rowsMax ≤ length r) where
-  abbrev rooms : List Judgement
-  rooms = roomCheck l 0 (pictureCount bytes) ∷ roomCheck m 0 (pictureCount bytes) ∷ roomCheck r 0 (rateCount bytes) ∷ []
-
-  rooms-passed : Laid bytes → first rooms ≡ passed
+  rooms-passed : Laid bytes → first (rooms bytes l m r) ≡ passed
   rooms-passed h =
-      first-passed rooms .1
-      (room-passed l (pictureCount bytes) (le-trans (h .few) hl), (room-passed m (pictureCount bytes) (le-trans (h .few) hm), (room-passed r (rateCount bytes) (le-trans (h .rows) hr), tt)))
+      let room : (l : List ℕ) (n most : ℕ) → n ≤ most → most ≤ length l → roomCheck l 0 n ≡ passed = λ l n most few fits. roomCheck-passed l 0 n (omega arith) in
+      first-passed (rooms bytes l m r) .1 (room l _ _ (h .few) hl, (room m _ _ (h .few) hm, (room r _ _ (h .rows) hr, tt)))
 
   -- a sheet with no fault is laid out, and has none in its lists
   parts : first (sheetFaults bytes) ≡ passed → Laid bytes × (lowest (listFaults bytes) ≡ passed)
@@ -118,9 +112,9 @@ module _ (bytes l m r : List ℕ) (hl : sheetPicturesMax ≤ length l) (hm : she
       (headerFaults-laid bytes .0 (both .0), first-passed lists .0 (both .1) .0)
 
   pub open-judged : first (openFaults bytes l m r) ≡ first (sheetFaults bytes)
-  open-judged = first-append (sheetFaults bytes) rooms ∙ go _ refl
+  open-judged = first-append (sheetFaults bytes) (rooms bytes l m r) ∙ go _ refl
     where
-      go : (j : Judgement) → first (sheetFaults bytes) ≡ j → orElse (first (sheetFaults bytes)) (first rooms) ≡ first (sheetFaults bytes)
+      go : (j : Judgement) → first (sheetFaults bytes) ≡ j → orElse (first (sheetFaults bytes)) (first (rooms bytes l m r)) ≡ first (sheetFaults bytes)
       go (given tt) e = rw e (rooms-passed (parts e .0))
       go (refused n i) e = rw e
 
@@ -153,15 +147,6 @@ module _ (bytes l m r : List ℕ) (hl : sheetPicturesMax ≤ length l) (hm : she
       rates-written : rates ≡ written r 0 (sheetRates bytes)
       rates-written = ap (λ (t : sheet.Opened). t .rates) p ∙ ap (λ j. writtenIf j r 0 (sheetRates bytes)) (said .0)
 
-      sizes-fit : (head .pictures ≤ length sizes) × (head .pictures ≡ length (take (head .pictures) sizes))
-      sizes-fit = written-fits l sizes (sheetSizes bytes) (head .pictures) sizes-written (listOf-length _ _ ∙ pictures)
-
-      ticks-fit : (head .pictures ≤ length ticks) × (head .pictures ≡ length (take (head .pictures) ticks))
-      ticks-fit = written-fits m ticks (sheetTicks bytes) (head .pictures) ticks-written (listOf-length _ _ ∙ pictures)
-
-      rates-fit : (head .rates ≤ length rates) × (head .rates ≡ length (take (head .rates) rates))
-      rates-fit = written-fits r rates (sheetRates bytes) (head .rates) rates-written (listOf-length _ _ ∙ rows)
-
       whole : front sizes ticks head ≡ sheetRecording bytes
       whole =
           rw (
@@ -179,17 +164,21 @@ module _ (bytes l m r : List ℕ) (hl : sheetPicturesMax ≤ length l) (hm : she
           let both = orElse-passed (judgeOutcome (sheetRecording bytes)) _ .0 (sym (listFaults-first bytes) ∙ parts passes .1) in
           (both .0, first-passed (rateListCheck (sheetRates bytes) ∷ []) .0 (both .1) .0)
 
-      opened-judged : (judgeOutcome (front sizes ticks head) ≡ passed) × (rateCountCheck (take (head .rates) rates) ≡ passed) × (rateListCheck (take (head .rates) rates) ≡ passed)
-      opened-judged =
+      counted : outside 1 rowsMax (length (sheetRates bytes)) ≡ false
+      counted =
           let h : Laid bytes = parts passes .0 in
-          let count : outside 1 rowsMax (length (sheetRates bytes)) ≡ false = rw (listOf-length (λ i. wordAt bytes (headerBytes + 8 * pictureCount bytes + 4 * i)) (rateCount bytes)) (outside-false 1 rowsMax (rateCount bytes) .1 (h .rated, h .rows)) in
-          (ap judgeOutcome whole ∙ lists .0, ap rateCountCheck listed ∙ test-false refusal.rate 0 count, ap rateListCheck listed ∙ lists .1)
-
-      text-opened : sheetText bytes ≡ leastText (front sizes ticks head) (take (head .rates) rates)
-      text-opened = rw (passes, whole, listed)
+          rw (listOf-length (λ i. wordAt bytes (headerBytes + 8 * pictureCount bytes + 4 * i)) (rateCount bytes))
+          (outside-false 1 rowsMax (rateCount bytes) .1 (h .rated, h .rows))
 
       pub opens : Opens bytes sizes ticks rates head
-      opens = record { sizesFit = sizes-fit; ticksFit = ticks-fit; ratesFit = rates-fit; judged = opened-judged; text = text-opened }
+      opens =
+          record {
+            sizesFit = written-fits l sizes (sheetSizes bytes) (head .pictures) sizes-written (listOf-length _ _ ∙ pictures);
+            ticksFit = written-fits m ticks (sheetTicks bytes) (head .pictures) ticks-written (listOf-length _ _ ∙ pictures);
+            ratesFit = written-fits r rates (sheetRates bytes) (head .rates) rates-written (listOf-length _ _ ∙ rows);
+            judged = (ap judgeOutcome whole ∙ lists .0, ap rateCountCheck listed ∙ test-false refusal.rate 0 counted, ap rateListCheck listed ∙ lists .1);
+            text = rw (passes, whole, listed);
+          }
 
 -- printing to a lent list what was put together
 module _ (bytes text whole₀ whole : List ℕ) (end : ℕ) (put : Put whole₀ 0 (sheetText bytes) whole end) where
