@@ -1,4 +1,5 @@
 pub mod NumbersLaws
+pub mod FilledLaws
 pub mod AnswersLaws
 pub mod RecordingLaws
 pub mod FaultsLaws

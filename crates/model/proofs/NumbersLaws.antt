@@ -16,6 +16,7 @@
 --     listOf-append       a list of a + b numbers is one of a and then one of b
 --     listOf-getD         a list is the list of its entries
 --     map-at              a function over a list, at an entry
+--     map-listOf          so it is the list of its values
 --     append-each         what is true of each entry of two lists is true of each entry of one behind the other
 --     written-length      a list written in part keeps its length
 --     written-append      a part written behind a part is both parts written
@@ -34,7 +35,7 @@ use native.Mathlib.Omega.{arith}
 use mathlib.Core.Path.{_≡_, refl, sym, ap, ap₂, _∙_}
 use mathlib.Core.Logic.{_↔_, ⊎-elim}
 use mathlib.Core.List.{List, [], _∷_, _++_, map, append-nil, append-assoc}
-use lib.ListN.{length, getD, take, drop, set, length-append, length-take, length-drop, drop-of-length-le, List·getD-append}
+use lib.ListN.{length, getD, take, drop, set, length-append, length-take, length-drop, length-map, drop-of-length-le, List·getD-append}
 use lib.Seq.{getD-at, ext-getD, take-all, take-at, drop-at, drop-drop, set-split}
 use lib.Dec.{lit<}
 use Rattle.model.specs.Numbers.{roundUp, largest, Rising, listOf, written}
@@ -139,6 +140,10 @@ pub map-at : (f : ℕ → ℕ) (l : List ℕ) (i : ℕ) → i < length l → get
 map-at f [] i h = absurd (not-suc-le-zero h)
 map-at f (x ∷ l) zero h = refl
 map-at f (x ∷ l) (suc i) h = map-at f l i (suc-le-suc-iff .0 h)
+
+pub map-listOf : (f : ℕ → ℕ) (l : List ℕ) → map f l ≡ listOf (λ i. f (getD l i 0)) (length l)
+map-listOf f l =
+    sym (listOf-getD (map f l)) ∙ ap (listOf (λ i. getD (map f l) i 0)) (length-map l f) ∙ listOf-ext _ _ (length l) (λ i h. map-at f l i h)
 
 pub written-length : (l : List ℕ) (at : ℕ) (xs : List ℕ) → at + length xs ≤ length l → length (written l at xs) ≡ length l
 written-length l at xs h = simp (length-append, length-take, length-drop) (omega arith)

@@ -1,41 +1,15 @@
 -- `schedule::fill` meets its contract. The loop's invariant: what `watch` has watched, and that both lists begin with the starts and the ends
 -- of the pictures passed, all else kept. The measure is what is left of the pictures. Assumes nothing.
-use Prim.Native.Nat.{ℕ, _+_, _-_, _≤_, _<_}
-use native.Mathlib.Nat.{le-trans, le-antisymm}
-use mathlib.Core.Path.{_≡_, refl, ap, _∙_}
-use mathlib.Core.List.{List}
+use Prim.Native.Nat.{_-_}
 use native.Mathlib.Omega.{arith}
 use borrow.Author.Needs.{needs}
-use lib.ListN.{length, set, length-set}
-use Rattle.model.specs.Numbers.{listOf, written}
+use lib.ListN.{length}
 use Rattle.model.specs.Recording.{recording}
 use Rattle.model.specs.Arrival.{bucket, arrivalStart, arrivalEnd}
-use Rattle.model.proofs.NumbersLaws.{written-listOf}
+use Rattle.model.proofs.FilledLaws.{Filled, filled-none, filled-more, filled-all}
 use Rattle.schedule.proofs.WatchLaws.{Watched, begun, lead-fit, hold-fit, fall-fit, rises, ticks-fit, removal-fit, bits-fit, end-fit, arrives, next, done}
 use Rattle.schedule.proofs.fill.Statement.{statement}
 use Rattle.schedule.proofs.fill.Tie as tie
-
--- a list with room for n entries that begins with f 0 to f (i - 1) and else is as it was
-record Filled (f : ℕ → ℕ) (n : ℕ) (l₀ l : List ℕ) (i : ℕ) : Type 0 where
-  room : n ≤ length l₀
-  same : length l ≡ length l₀
-  begins : l ≡ written l₀ 0 (listOf f i)
-
-filled-none : (f : ℕ → ℕ) (n : ℕ) (l : List ℕ) → n ≤ length l → Filled f n l l 0
-unfolding listOf
-filled-none f n l h = record { room = h; same = refl; begins = refl }
-
-module _ {f : ℕ → ℕ} {n : ℕ} {l₀ l : List ℕ} {i : ℕ} (p : Filled f n l₀ l i) where
-  filled-more : i < n → (x : ℕ) → x ≡ f i → Filled f n l₀ (set l i x) (i + 1)
-  filled-more h x e =
-      record {
-        room = p .room;
-        same = rw length-set (p .same);
-        begins = rw (p .begins, e) (written-listOf l₀ f i (le-trans h (p .room)));
-      }
-
-  filled-all : i ≤ n → n ≤ i → l ≡ written l₀ 0 (listOf f n)
-  filled-all h g = p .begins ∙ ap (λ m. written l₀ 0 (listOf f m)) (le-antisymm h g)
 
 abbrev Inv-loop : tie.InvT-loop
 Inv-loop sizes ticks ts nu rate buffer fullness starts₀ ends₀ lead hold fall first free₀ seen₀ j₀ starts ends free seen j =
