@@ -1,8 +1,8 @@
-//! Damage to a case: one value or list of it put out of its range, so that the call is refused
-//! unless the damage happens to be harmless.
+//! Values and lists put out of their ranges, where several operations share them.
 
-use crate::cases::{Asked, Bytes, Case, Lent, Record, Rows, MARGIN};
+use crate::arguments::{Asked, Record};
 use crate::draws::{one_in, pick, rising};
+use crate::lent::{Bytes, Lent, MARGIN};
 use oracle::limits::{
     BUFFER_MAX, HEADER_BYTES, LENGTH_MAX, NU_MAX, PICTURES_MAX, RATES_MAX, RATE_MAX,
     RECORD_ROWS_MAX, SCALE_MAX, SIZE_MAX, SPAN_MAX, TS_MAX, VALUE_MINUS1_MAX,
@@ -10,76 +10,23 @@ use oracle::limits::{
 use oracle::xorshift::XorShift;
 use planner::Params;
 
-pub fn damage(random: &mut XorShift, case: &mut Case) {
-    let first = one_in(random, 2);
-    match case {
-        Case::Judge { rec } => record(random, rec),
-        Case::Verdict { rec, .. } if first => record(random, rec),
-        Case::Verdict { asked, .. } => bucket(random, asked),
-        Case::Schedule { rec, .. } if first => record(random, rec),
-        Case::Schedule { asked, lent, .. } => {
-            if one_in(random, 2) {
-                bucket(random, asked)
-            } else {
-                room(random, lent)
-            }
-        }
-        Case::Least { rec, .. } if first => record(random, rec),
-        Case::Least { rate, .. } => *rate = outside(random, RATE_MAX),
-        Case::Table { rec, .. } if first => record(random, rec),
-        Case::Table { rates, lent, .. } => {
-            if one_in(random, 2) {
-                rate_list(random, rates)
-            } else {
-                room(random, lent)
-            }
-        }
-        Case::LookUp { rate, .. } if one_in(random, 6) => *rate = outside(random, RATE_MAX),
-        Case::LookUp { rows, .. } => table(random, rows),
-        Case::Seconds { asked } | Case::Panel { asked, .. } => bucket(random, asked),
-        Case::ReadParams { lent } if first => bits(random, lent),
-        Case::ReadParams { lent } => bytes(random, lent),
-        Case::WriteParams { params, .. } if first => fields(random, params),
-        Case::WriteParams { lent, .. } => bytes(random, lent),
-        Case::RowVerdict { rec, .. } if first => record(random, rec),
-        Case::RowVerdict {
-            params,
-            row,
-            fullness,
-            ..
-        } => match random.range(0, 2) {
-            0 => fields(random, params),
-            1 => *row = pick(random, &[params.cpb_cnt, usize::MAX]),
-            _ => *fullness = outside(random, BUFFER_MAX),
-        },
-        Case::OpenSheet { lists, .. } if one_in(random, 4) => shorten(random, lists),
-        Case::OpenSheet { sheet, .. } | Case::PrintSheet { sheet, .. } | Case::Plan { sheet } => {
-            if first {
-                sheet_word(random, sheet)
-            } else {
-                sheet_length(random, sheet)
-            }
-        }
-    }
-}
-
-fn outside(random: &mut XorShift, largest: u64) -> u64 {
+pub fn outside(random: &mut XorShift, largest: u64) -> u64 {
     pick(random, &[0, largest + 1, u64::MAX])
 }
 
 /// A place in a list that may be empty.
-fn place(random: &mut XorShift, list: &[u64]) -> Option<usize> {
+pub fn place(random: &mut XorShift, list: &[u64]) -> Option<usize> {
     let last = list.len().checked_sub(1)?;
     Some(random.range(0, last as u64) as usize)
 }
 
-fn set_outside(random: &mut XorShift, list: &mut [u64], largest: u64) {
+pub fn set_outside(random: &mut XorShift, list: &mut [u64], largest: u64) {
     if let Some(i) = place(random, list) {
         list[i] = outside(random, largest);
     }
 }
 
-fn other_length(random: &mut XorShift, list: &mut Vec<u64>) {
+pub fn other_length(random: &mut XorShift, list: &mut Vec<u64>) {
     match random.range(0, 3) {
         0 => list.clear(),
         1 => list.push(1),
@@ -90,7 +37,7 @@ fn other_length(random: &mut XorShift, list: &mut Vec<u64>) {
     }
 }
 
-fn record(random: &mut XorShift, rec: &mut Record) {
+pub fn record(random: &mut XorShift, rec: &mut Record) {
     match random.range(0, 8) {
         0 | 1 => set_outside(random, &mut rec.sizes, SIZE_MAX),
         2 | 3 => tick(random, &mut rec.ticks),
@@ -116,7 +63,7 @@ fn tick(random: &mut XorShift, ticks: &mut [u64]) {
     ticks[i] = pick(random, &choices);
 }
 
-fn bucket(random: &mut XorShift, asked: &mut Asked) {
+pub fn bucket(random: &mut XorShift, asked: &mut Asked) {
     match random.range(0, 2) {
         0 => asked.rate = outside(random, RATE_MAX),
         1 => asked.buffer = outside(random, BUFFER_MAX),
@@ -124,11 +71,11 @@ fn bucket(random: &mut XorShift, asked: &mut Asked) {
     }
 }
 
-fn too_full(random: &mut XorShift, buffer: u64) -> u64 {
+pub fn too_full(random: &mut XorShift, buffer: u64) -> u64 {
     pick(random, &[0, buffer.wrapping_add(1), u64::MAX])
 }
 
-fn rate_list(random: &mut XorShift, rates: &mut Vec<u64>) {
+pub fn rate_list(random: &mut XorShift, rates: &mut Vec<u64>) {
     match random.range(0, 3) {
         0 => rates.clear(),
         1 => *rates = rising(random, RATES_MAX as usize + 1),
@@ -143,7 +90,7 @@ fn rate_list(random: &mut XorShift, rates: &mut Vec<u64>) {
 }
 
 /// The first entry at the end, past it or far past it, or lists that are too short.
-fn room(random: &mut XorShift, lent: &mut Lent) {
+pub fn room(random: &mut XorShift, lent: &mut Lent) {
     let either = one_in(random, 2) as usize;
     let list = &mut lent.lists[either];
     let length = list.len() - 2 * MARGIN;
@@ -159,46 +106,8 @@ fn room(random: &mut XorShift, lent: &mut Lent) {
     }
 }
 
-fn table(random: &mut XorShift, rows: &mut Rows) {
-    match random.range(0, 9) {
-        0 => rows.ts = outside(random, TS_MAX),
-        1 => rows.nu = outside(random, NU_MAX),
-        2 => rows.span = pick(random, &[SPAN_MAX + 1, u64::MAX]),
-        3 => other_length(random, &mut rows.buffers),
-        4 => other_length(random, &mut rows.fulls),
-        5 => {
-            let count = pick(random, &[0, RATES_MAX as usize + 1]);
-            rows.rates = rising(random, count);
-            rows.buffers.resize(count, 1);
-            rows.fulls.resize(count, 1);
-        }
-        6 => set_outside(random, &mut rows.buffers, BUFFER_MAX),
-        7 | 8 => {
-            if let Some(i) = place(random, &rows.fulls) {
-                let buffer = rows.buffers.get(i).copied().unwrap_or(1);
-                rows.fulls[i] = too_full(random, buffer);
-            }
-        }
-        _ => rate_list(random, &mut rows.rates),
-    }
-}
-
-/// Some bits turned, near the start or anywhere.
-fn bits(random: &mut XorShift, lent: &mut Bytes) {
-    let end = 8 * (lent.list.len() - 2 * MARGIN) as u64;
-    let Some(last) = end.checked_sub(1) else {
-        return;
-    };
-    for _ in 0..random.range(1, 3) {
-        let near = lent.start.saturating_add(random.range(0, 40));
-        let any = random.range(0, last);
-        let position = pick(random, &[near.min(last), any]);
-        lent.list[MARGIN + (position / 8) as usize] ^= 0x80 >> (position % 8);
-    }
-}
-
 /// A list that is cut, or a start at the end, past it or far past it.
-fn bytes(random: &mut XorShift, lent: &mut Bytes) {
+pub fn bytes(random: &mut XorShift, lent: &mut Bytes) {
     let length = lent.list.len() - 2 * MARGIN;
     let end = 8 * length as u64;
     match random.range(0, 5) {
@@ -220,11 +129,11 @@ fn bytes(random: &mut XorShift, lent: &mut Bytes) {
     }
 }
 
-fn above(random: &mut XorShift, largest: u64) -> u64 {
+pub fn above(random: &mut XorShift, largest: u64) -> u64 {
     pick(random, &[largest + 1, u64::MAX])
 }
 
-fn fields(random: &mut XorShift, params: &mut Params) {
+pub fn fields(random: &mut XorShift, params: &mut Params) {
     let rows = params.cpb_cnt.min(RECORD_ROWS_MAX as usize);
     match random.range(0, 9) {
         0 => {
@@ -274,6 +183,15 @@ fn length_field(random: &mut XorShift, params: &mut Params) {
     }
 }
 
+/// A sheet with another word, or of another length.
+pub fn sheet(random: &mut XorShift, sheet: &mut Vec<u8>, word: bool) {
+    if word {
+        sheet_word(random, sheet)
+    } else {
+        sheet_length(random, sheet)
+    }
+}
+
 /// A word of the header, or of the lists, that is another.
 fn sheet_word(random: &mut XorShift, sheet: &mut [u8]) {
     let words = sheet.len() as u64 / 4;
@@ -307,12 +225,4 @@ fn sheet_length(random: &mut XorShift, sheet: &mut Vec<u8>) {
     let longer = [length + 1, length + 4, largest + random.range(0, 2), 70_000];
     let (shorter, longer) = (pick(random, &shorter), pick(random, &longer));
     sheet.resize(pick(random, &[shorter, longer]) as usize, 0);
-}
-
-/// One of the lists that is too short.
-fn shorten(random: &mut XorShift, lists: &mut [Vec<u64>; 3]) {
-    let list = &mut lists[random.range(0, 2) as usize];
-    let length = (list.len() - 2 * MARGIN) as u64;
-    let shorter = random.range(0, length.saturating_sub(1)) as usize;
-    list.truncate(shorter + 2 * MARGIN);
 }

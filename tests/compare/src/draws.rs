@@ -1,14 +1,16 @@
-//! Draws of values in their ranges, the ends of the ranges often among them.
+//! Draws of values in their ranges, the ends of the ranges often among them, where several operations
+//! share them.
 
+use crate::arguments::{Asked, Record};
 use crate::by_oracle::{params_of, recording};
-use crate::cases::{Asked, Bytes, Lent, Record, Rows, MARGIN};
+use crate::lent::{Bytes, Lent, MARGIN};
 use oracle::bits::write_params;
 use oracle::least::least;
 use oracle::limits::{
     BUFFER_MAX, LENGTH_MAX, NU_MAX, PICTURES_MAX, RATES_MAX, RATE_MAX, RECORD_ROWS_MAX, SCALE_MAX,
-    SIZE_MAX, SPAN_MAX, TEXT_MAX, TS_MAX, VALUE_MINUS1_MAX,
+    SIZE_MAX, SPAN_MAX, TS_MAX, VALUE_MINUS1_MAX,
 };
-use oracle::panel::seconds;
+use oracle::sheet::make_sheet;
 use oracle::xorshift::XorShift;
 use planner::Params;
 use std::collections::BTreeSet;
@@ -61,7 +63,7 @@ pub fn record(random: &mut XorShift, one_long_in: u64) -> Record {
     }
 }
 
-fn clock(random: &mut XorShift) -> (u64, u64) {
+pub fn clock(random: &mut XorShift) -> (u64, u64) {
     let any = (up_to(random, TS_MAX), up_to(random, NU_MAX));
     let small = (random.range(1, 10), random.range(1, 10));
     let usual = [(1, 1), (50, 1), (60_000, 1_001)];
@@ -97,7 +99,7 @@ pub fn rate_of(random: &mut XorShift, rec: &Record) -> u64 {
     (mean.min(RATE_MAX) * percent / 100).clamp(1, RATE_MAX)
 }
 
-fn span(rec: &Record) -> u64 {
+pub fn span(rec: &Record) -> u64 {
     rec.ticks[rec.ticks.len() - 1] - rec.ticks[0]
 }
 
@@ -171,83 +173,6 @@ pub fn rising(random: &mut XorShift, count: usize) -> Vec<u64> {
     rates.into_iter().collect()
 }
 
-/// The table of a recording, or one that is no recording's.
-pub fn rows(random: &mut XorShift) -> Rows {
-    let rates = rates(random);
-    if one_in(random, 2) {
-        let rec = record(random, 100_000);
-        let table: Vec<_> = rates
-            .iter()
-            .map(|&rate| least(&recording(&rec), rate).expect("a drawn recording has no fault"))
-            .collect();
-        return Rows {
-            rates,
-            buffers: table.iter().map(|least| least.buffer).collect(),
-            fulls: table.iter().map(|least| least.fullness).collect(),
-            ts: rec.ts,
-            nu: rec.nu,
-            span: span(&rec),
-        };
-    }
-    let buffers: Vec<u64> = if one_in(random, 8) {
-        vec![BUFFER_MAX; rates.len()]
-    } else {
-        rates.iter().map(|_| up_to(random, BUFFER_MAX)).collect()
-    };
-    let fulls = buffers.iter().map(|&b| up_to(random, b)).collect();
-    let (ts, nu) = clock(random);
-    let any = random.range(0, SPAN_MAX);
-    Rows {
-        rates,
-        buffers,
-        fulls,
-        ts,
-        nu,
-        span: pick(random, &[0, any, SPAN_MAX]),
-    }
-}
-
-/// A rate on a row, beside one, or anywhere.
-pub fn rate_beside(random: &mut XorShift, rates: &[u64]) -> u64 {
-    let row = pick(random, rates);
-    let any = up_to(random, RATE_MAX);
-    let (first, last) = (rates[0], rates[rates.len() - 1]);
-    let between = random.range(first, last);
-    let beside = pick(random, &[row - 1, row, row + 1]);
-    pick(random, &[any, between, beside]).clamp(1, RATE_MAX)
-}
-
-/// Limits beside the wait, far from it, and doubles that are no limit.
-pub fn limit(random: &mut XorShift, asked: &Asked) -> f64 {
-    let wait = seconds(asked.rate, asked.buffer, asked.fullness)
-        .expect("a drawn bucket has no fault")
-        .wait;
-    let fraction = random.range(1, 200) as f64 / 100.0;
-    let subnormal = f64::from_bits(random.range(1, (1 << 52) - 1));
-    let any = f64::from_bits(random.draw());
-    let special = [
-        f64::NAN,
-        -f64::NAN,
-        f64::INFINITY,
-        f64::NEG_INFINITY,
-        0.0,
-        -0.0,
-        -wait,
-        subnormal,
-        -subnormal,
-        f64::MIN_POSITIVE,
-        f64::from_bits(1),
-        f64::MAX,
-        f64::MIN,
-    ];
-    let special = pick(random, &special);
-    let below = f64::from_bits(wait.to_bits() - 1);
-    let above = f64::from_bits(wait.to_bits() + 1);
-    let nearby = [wait, below, above, wait * fraction];
-    let nearby = pick(random, &nearby);
-    pick(random, &[nearby, nearby, nearby, special, any])
-}
-
 /// From 0 to `largest`, both ends often.
 fn from_zero(random: &mut XorShift, largest: u64) -> u64 {
     let any = random.range(0, largest);
@@ -297,23 +222,7 @@ pub fn params(random: &mut XorShift) -> Params {
     params
 }
 
-/// A record of one row with the least rate and size of a row that are no less than those asked; or
-/// any record, most of whose rows no bucket can be.
-pub fn params_for(random: &mut XorShift, asked: &Asked) -> Params {
-    let mut params = params(random);
-    if one_in(random, 4) {
-        return params;
-    }
-    params.cpb_cnt = 1;
-    params.bit_rate_scale = 0;
-    params.cpb_size_scale = 0;
-    params.bit_rate_value_minus1[0] = asked.rate.div_ceil(64) - 1;
-    params.cpb_size_value_minus1[0] = (asked.buffer.div_ceil(16) - 1).min(VALUE_MINUS1_MAX);
-    params.cbr_flag[0] = one_in(random, 4) as u64;
-    params
-}
-
-fn any_bytes(random: &mut XorShift, length: usize) -> Vec<u8> {
+pub fn any_bytes(random: &mut XorShift, length: usize) -> Vec<u8> {
     (0..length).map(|_| random.draw() as u8).collect()
 }
 
@@ -331,8 +240,8 @@ pub fn bytes_for(random: &mut XorShift, params: &Params) -> Bytes {
     }
 }
 
-/// A recording and rates that a sheet can hold.
-pub fn sheet(random: &mut XorShift) -> (Record, Vec<u64>) {
+/// A sheet of a recording and rates, and how many pictures and rates it has.
+pub fn sheet(random: &mut XorShift) -> (Vec<u8>, usize, usize) {
     let mut rec = record(random, 2000);
     let latest = WORD_MAX - span(&rec);
     let any = random.range(0, latest);
@@ -340,42 +249,7 @@ pub fn sheet(random: &mut XorShift) -> (Record, Vec<u64>) {
     for tick in &mut rec.ticks {
         *tick = *tick - before + first;
     }
-    (rec, rates(random))
-}
-
-/// A list of bytes with room for most texts, or for some.
-pub fn text_room(random: &mut XorShift) -> Vec<u8> {
-    let some = random.range(0, 200);
-    let length = pick(random, &[some, TEXT_MAX, TEXT_MAX]) as usize;
-    any_bytes(random, MARGIN + length + MARGIN)
-}
-
-/// The bytes of a record, or any bytes, half of these with few ones or none.
-pub fn record_bytes(random: &mut XorShift) -> Bytes {
-    if one_in(random, 4) {
-        let (short, any) = (random.range(0, 8), random.range(0, 40));
-        let length = pick(random, &[short, any]) as usize;
-        let mut list = any_bytes(random, MARGIN + length + MARGIN);
-        if one_in(random, 2) {
-            let any = random.draw();
-            let rare = pick(random, &[0, any]);
-            for byte in &mut list {
-                *byte &= (rare & random.draw() & random.draw()) as u8;
-            }
-        }
-        return Bytes {
-            start: random.range(0, 31),
-            list,
-        };
-    }
-    let params = params(random);
-    let mut bytes = bytes_for(random, &params);
-    let end = bytes.list.len() - MARGIN;
-    write_params(
-        &params_of(&params),
-        &mut bytes.list[MARGIN..end],
-        bytes.start,
-    )
-    .expect("the drawn bytes have room");
-    bytes
+    let rates = rates(random);
+    let sheet = make_sheet(&recording(&rec), &rates);
+    (sheet, rec.sizes.len(), rates.len())
 }

@@ -2,7 +2,6 @@
 //! difference so that it can be run again, and fails if there was one.
 
 use compare::cases::{case, operation};
-use compare::{by_library, by_oracle};
 use std::collections::BTreeMap;
 use std::process::ExitCode;
 use std::time::{Instant, SystemTime, UNIX_EPOCH};
@@ -30,7 +29,7 @@ fn main() -> ExitCode {
     let mut differences = 0u64;
     let begun = Instant::now();
     for number in numbers {
-        *counts.entry(operation(number)).or_insert(0) += 1;
+        *counts.entry(operation(number).name).or_insert(0) += 1;
         if differs(options.seed, number, options.only.is_some()) {
             differences += 1;
         }
@@ -68,8 +67,8 @@ fn options() -> Option<Options> {
 
 fn differs(seed: u64, number: u64, show: bool) -> bool {
     let case = case(seed, number);
-    let library = by_library::outcome(&case);
-    let oracle = by_oracle::outcome(&case);
+    let library = case.by_library();
+    let oracle = case.by_oracle();
     let differs = library != oracle;
     if differs || show {
         let word = if differs { "difference" } else { "same" };

@@ -1,7 +1,4 @@
-//! What a case comes to: the answer, doubles by their bits, and the lent lists with the entries
-//! around them.
-
-use planner::Params;
+//! What a case comes to: the answer, and the lent lists with the entries around them.
 
 #[derive(Clone, Debug, PartialEq, Eq)]
 pub enum Answer {
@@ -9,43 +6,40 @@ pub enum Answer {
         number: u8,
         place: u64,
     },
-    Passed,
-    Holds,
-    Late {
-        picture: u64,
-        units: u64,
+    /// A kind of answer by its name, and its figures: doubles by their bits, a parameter record by
+    /// its fields in order.
+    Given {
+        kind: &'static str,
+        figures: Vec<u64>,
     },
-    Bucket {
-        buffer: u64,
-        fullness: u64,
-    },
-    Seconds {
-        wait: u64,
-        fill: u64,
-    },
-    Within {
-        wait: u64,
-    },
-    Over {
-        wait: u64,
-        limit: u64,
-    },
-    Read {
-        params: Box<Params>,
-        next: u64,
-    },
-    Written {
-        next: u64,
-    },
-    Opened {
-        pictures: u64,
-        rates: u64,
-        ts: u64,
-        nu: u64,
-    },
-    Printed {
-        length: u64,
-    },
+}
+
+impl Answer {
+    pub(crate) fn given(kind: &'static str, figures: impl Into<Vec<u64>>) -> Answer {
+        Answer::Given {
+            kind,
+            figures: figures.into(),
+        }
+    }
+}
+
+/// The answer of a result: its refusal, or what its value comes to.
+pub(crate) fn settled<T, E: Into<Answer>>(
+    result: Result<T, E>,
+    answer: impl FnOnce(T) -> Answer,
+) -> Answer {
+    match result {
+        Ok(value) => answer(value),
+        Err(refused) => refused.into(),
+    }
+}
+
+pub(crate) fn passed((): ()) -> Answer {
+    Answer::given("passed", [])
+}
+
+pub(crate) fn bucket(buffer: u64, fullness: u64) -> Answer {
+    Answer::given("bucket", [buffer, fullness])
 }
 
 #[derive(Debug, PartialEq, Eq)]
@@ -59,18 +53,6 @@ impl From<Answer> for Outcome {
         Outcome {
             answer,
             lent: Vec::new(),
-        }
-    }
-}
-
-impl Outcome {
-    /// What the program has printed.
-    pub(crate) fn printed(text: &[u8]) -> Outcome {
-        Outcome {
-            answer: Answer::Printed {
-                length: text.len() as u64,
-            },
-            lent: vec![text.iter().copied().map(u64::from).collect()],
         }
     }
 }

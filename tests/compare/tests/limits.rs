@@ -1,20 +1,10 @@
 //! The limits of docs/RULES.md against the second program's: the table there has these values and
 //! no others.
 
+mod rules;
+
 use oracle::bits::{rate_of, size_of, Params, Row};
 use oracle::limits;
-
-fn written() -> Vec<(&'static str, u64)> {
-    let text = include_str!("../../../docs/RULES.md");
-    let (_, section) = text.split_once("\n## Limits\n").unwrap();
-    let (section, _) = section.split_once("\n## ").unwrap();
-    let rows = section.lines().filter(|line| line.starts_with("| `"));
-    rows.map(|row| {
-        let cells: Vec<&str> = row.split('|').map(str::trim).collect();
-        (cells[2].trim_matches('`'), cells[3].parse().unwrap())
-    })
-    .collect()
-}
 
 /// Bits of a field whose largest value has every bit set.
 fn width(largest: u64) -> u64 {
@@ -50,7 +40,7 @@ fn largest_sheet() -> u64 {
 fn every_written_limit() {
     let (rate_shift, size_shift) = shifts();
     assert_eq!(
-        written(),
+        rules::limits(),
         [
             ("PICTURES_MAX", limits::PICTURES_MAX),
             ("SHEET_PICTURES_MAX", limits::PICTURES_MAX),

@@ -1,29 +1,33 @@
 //! From any bytes to a case of one operation.
 
 use crate::feed::Feed;
-use compare::cases::{Bytes, Case, Rows, MARGIN};
+use compare::lent::{Bytes, MARGIN};
+use compare::operations::look_up::{LookUp, Rows};
+use compare::operations::open_sheet::OpenSheet;
+use compare::operations::read_params::ReadParams;
+use compare::operations::Case;
 use oracle::limits::{
     BUFFER_MAX, HEADER_BYTES, NU_MAX, RATES_MAX, RATE_MAX, SIZE_MAX, SPAN_MAX, TS_MAX,
 };
 
 /// The start, one byte or after the byte 255 eight, and then the bytes to read.
-pub fn read_params(data: &[u8]) -> Case {
+pub fn read_params(data: &[u8]) -> Box<dyn Case> {
     let mut feed = Feed { rest: data };
     let start = match feed.byte() {
         255 => feed.word(8),
         near => u64::from(near),
     };
     let margin = [0xFF; MARGIN];
-    Case::ReadParams {
+    Box::new(ReadParams {
         lent: Bytes {
             start,
             list: [&margin, feed.rest, &margin].concat(),
         },
-    }
+    })
 }
 
 /// The clock and the span, the rows, and a rate between two of them.
-pub fn look_up(data: &[u8]) -> Case {
+pub fn look_up(data: &[u8]) -> Box<dyn Case> {
     let feed = &mut Feed { rest: data };
     let mut rows = Rows {
         rates: Vec::new(),
@@ -45,7 +49,7 @@ pub fn look_up(data: &[u8]) -> Case {
         3 => rows.fulls.truncate(feed.byte().into()),
         _ => {}
     }
-    Case::LookUp { rows, rate }
+    Box::new(LookUp { rows, rate })
 }
 
 fn push_row(feed: &mut Feed, rows: &mut Rows) {
@@ -70,7 +74,7 @@ fn rate_between(feed: &mut Feed, rates: &[u64]) -> u64 {
 
 /// Bytes as they come, or a sheet made of its parts, cut or longer now and then; and three lists, of
 /// which few are too short.
-pub fn open_sheet(data: &[u8]) -> Case {
+pub fn open_sheet(data: &[u8]) -> Box<dyn Case> {
     let feed = &mut Feed { rest: data };
     let lists = [feed.byte(), feed.byte(), feed.byte()].map(|room| {
         let length = if room < 16 { room } else { SHEET_LIST };
@@ -80,7 +84,7 @@ pub fn open_sheet(data: &[u8]) -> Case {
         0 => feed.rest.to_vec(),
         _ => sheet_of_parts(feed),
     };
-    Case::OpenSheet { sheet, lists }
+    Box::new(OpenSheet { sheet, lists })
 }
 
 /// More entries than any list of a sheet made of its parts.

@@ -5,13 +5,12 @@ mod decoders;
 mod entry;
 mod feed;
 
-use compare::cases::Case;
+use compare::operations::Case;
 use compare::outcome::Answer;
-use compare::{by_library, by_oracle};
 
 pub struct Target {
     pub name: &'static str,
-    pub decode: fn(&[u8]) -> Case,
+    pub decode: fn(&[u8]) -> Box<dyn Case>,
 }
 
 pub static TARGETS: [Target; 3] = [
@@ -36,8 +35,8 @@ pub fn target(name: &str) -> Option<&'static Target> {
 /// The answer on which the library and the second program agree; panics where they do not.
 pub fn judge(target: &Target, data: &[u8]) -> Answer {
     let case = (target.decode)(data);
-    let library = by_library::outcome(&case);
-    let oracle = by_oracle::outcome(&case);
+    let library = case.by_library();
+    let oracle = case.by_oracle();
     assert_eq!(
         library, oracle,
         "library and second program differ on {case:?}"
