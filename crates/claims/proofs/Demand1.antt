@@ -11,18 +11,22 @@ use lib.Dec.{lit≤}
 use lib.ListN.{length}
 use Rattle.model.specs.Arrival.{Bucket, Verdict, holds, late, verdictOf, starts, ends}
 use Rattle.model.specs.Least.{leastBuffer, leastFullness}
-use Rattle.model.specs.Answers.{Answer, given, refused, Judgement, lowest, first, answerWith, writtenIf}
-use Rattle.model.specs.Faults.{roomCheck, scheduleFaults}
-use Rattle.model.specs.Codes.{bitsOf}
+use Rattle.terms.specs.Answers.{Answer, given, refused, Judgement, lowest, first, answerWith, writtenIf, roomCheck}
+use Rattle.model.specs.Faults.{scheduleFaults}
+use Rattle.coding.specs.Codes.{bitsOf}
 use Rattle.model.specs.Panel.{within, over}
-use Rattle.model.specs.Fields.{Reading as FieldsReading, done, short, atFault}
-use Rattle.model.specs.Params as params
-use Rattle.model.specs.Sheet.{sheetSizes, sheetTicks, sheetRates, openFaults, headOf, sheetText}
-use Rattle.hrd.specs.Outcome.{paramsOf}
-use Rattle.planner.specs.Answers.{judgementAnswer, verdictAnswer, bucketAnswer, secondsAnswer, readingAnswer, positionAnswer, sheetAnswer, textAnswer}
-use Rattle.planner.specs.declared.PlannerVerdict.{PlannerVerdict}
-use Rattle.planner.specs.declared.PlannerBucket.{PlannerBucket}
-use Rattle.planner.specs.declared.PlannerPosition.{PlannerPosition}
+use Rattle.coding.specs.Fields.{FieldsRead as FieldsReading, done, short, atFault}
+use Rattle.coding.specs.Params as params
+use Rattle.layout.specs.Sheet.{sheetSizes, sheetTicks, sheetRates, openFaults, headOf, sheetText}
+use Rattle.params.specs.Outcome.{paramsOf}
+use Rattle.answers.specs.Recordings.{judgementAnswer, verdictAnswer}
+use Rattle.answers.specs.Figures.{bucketAnswer}
+use Rattle.answers.specs.Seconds.{secondsAnswer, readingAnswer}
+use Rattle.answers.specs.Records.{positionAnswer}
+use Rattle.answers.specs.Sheets.{sheetAnswer, textAnswer}
+use Rattle.answers.specs.declared.recordings.PlannerVerdict.{PlannerVerdict}
+use Rattle.answers.specs.declared.figures.PlannerBucket.{PlannerBucket}
+use Rattle.answers.specs.declared.records.PlannerPosition.{PlannerPosition}
 use Rattle.claims.specs.Demands.{Told, Demand1Judge, Demand1Verdict, Demand1Schedule, Demand1Least, Demand1Table, Demand1Lookup, Demand1Seconds, Demand1Panel, Demand1Read, Demand1Write, Demand1Row, Demand1Open, Demand1Print}
 
 -- one law for every operation: where its struct r is f of its outcome a, and f says "answered" and "refused" as it should

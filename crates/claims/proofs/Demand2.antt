@@ -13,11 +13,13 @@ use Rattle.rules.specs.Limits.{bucketMax}
 use Rattle.model.specs.Recording.{Recording}
 use Rattle.model.specs.Arrival.{Bucket, bucket, holds, verdictOf}
 use Rattle.model.specs.Least.{leastBuffer, leastFullness, leastBucket}
-use Rattle.model.specs.Answers.{given, passed, lowest, first}
-use Rattle.model.specs.Faults.{outside, badRate, badBucket, rateCheck, leastFaults, secondsFaults}
+use Rattle.terms.specs.Answers.{given, passed, lowest, first}
+use Rattle.terms.specs.Numbers.{outside}
+use Rattle.model.specs.Faults.{badRate, badBucket, rateCheck, leastFaults, secondsFaults}
 use Rattle.model.specs.Outcomes.{judgeOutcome, verdictOutcome}
-use Rattle.model.proofs.AnswersLaws.{refuseIf-passed, orElse-passed, first-passed, none, test, test-false, answer-given, answer-passed}
-use Rattle.model.proofs.FaultsLaws.{or-false, outside-false, faults-after, verdictFaults-first, judgeOutcome-within, within-recorded}
+use Rattle.terms.proofs.AnswersLaws.{refuseIf-passed, orElse-passed, first-passed, none, test, test-false, answer-given, answer-passed}
+use Rattle.terms.proofs.NumbersLaws.{or-false, outside-false}
+use Rattle.model.proofs.FaultsLaws.{faults-after, verdictFaults-first, judgeOutcome-within, within-recorded}
 use Rattle.model.proofs.Demand2.{demand2}
 use Rattle.schedule.specs.declared.Verdict.{Verdict}
 use Rattle.schedule.specs.declared.Verdict.the-variants as verdict

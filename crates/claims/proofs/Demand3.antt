@@ -16,20 +16,20 @@ use lib.Dec.{ltb}
 use borrow.Author.Tests.{eq-eqb, le-ltb}
 use Rattle.rules.specs.Limits.{spanMax, tsMax, nuMax, rateMax, bucketMax}
 use Rattle.rules.specs.Refusals as refusal
-use Rattle.model.specs.Numbers.{roundUp, written}
+use Rattle.terms.specs.Numbers.{roundUp, written, outside}
 use Rattle.model.specs.Recording.{Recording, Recorded, Within, pictures, span}
 use Rattle.model.specs.Arrival.{bucket, holds}
 use Rattle.model.specs.Least.{leastBuffer, leastFullness, leastBucket}
-use Rattle.model.specs.Lookup.{Table, table, blend, figureAt}
-use Rattle.model.specs.Answers.{given, passed, lowest, first, writtenIf}
-use Rattle.model.specs.Faults.{outside, badClock, badRate, badBucket, badRow, rateCheck, rateCountCheck, rateListCheck, roomCheck, RatesWithin, tableFaults, lookupFaults}
+use Rattle.model.specs.Lookup.{Table, table, axisOf, blend, figureAt}
+use Rattle.terms.specs.Answers.{given, passed, lowest, first, writtenIf, roomCheck}
+use Rattle.model.specs.Faults.{badClock, badRate, badBucket, badRow, rateCheck, rateCountCheck, rateListCheck, RatesWithin, tableFaults, lookupFaults}
 use Rattle.model.specs.Outcomes as outcomes
 use Rattle.model.specs.Outcomes.{judgeOutcome}
 use Rattle.model.specs.Demands.{between}
-use Rattle.model.proofs.NumbersLaws.{roundUp-le, roundUp-above, map-at}
-use Rattle.model.proofs.AnswersLaws.{orElse-passed, first-passed, firstFault-passed, lowest-first, none, test, list, test-false, answer-given}
+use Rattle.terms.proofs.NumbersLaws.{roundUp-le, roundUp-above, map-at, or-false, outside-false}
+use Rattle.terms.proofs.AnswersLaws.{orElse-passed, first-passed, firstFault-passed, lowest-first, none, test, list, test-false, answer-given}
 use Rattle.model.proofs.RecordingLaws.{within-near}
-use Rattle.model.proofs.FaultsLaws.{or-false, outside-false, faults-after, judgeOutcome-within, rateList-within, lookupFaults-ascending, within-recorded}
+use Rattle.model.proofs.FaultsLaws.{faults-after, judgeOutcome-within, rateList-within, lookupFaults-ascending, within-recorded}
 use Rattle.model.proofs.LeastLaws.{leastFullness-buffer, leastFullness-some, leastBuffer-limit}
 use Rattle.model.proofs.LookupLaws.{figureAt-on, figureAt-between}
 use Rattle.model.proofs.Demand3.{demand3-holds, demand3-excess}
@@ -105,16 +105,16 @@ module _ (k : Recording) (rates : List ℕ) (w : Within k) (rw-ok : RatesWithin 
   small : r ≤ rateMax
   small = le-trans hi (rw-ok .small (suc i) h)
 
-  figure-between : (x : ℕ → ℕ) → figureAt t (map x rates) r ≡ between x (getD rates i 0) (getD rates (suc i) 0) r
+  figure-between : (x : ℕ → ℕ) → figureAt (axisOf t) (map x rates) r ≡ between x (getD rates i 0) (getD rates (suc i) 0) r
   unfolding t
   figure-between x =
       let at = map-at x rates i (le-of-lt h) in
       let at′ = map-at x rates (suc i) h in
       ⊎-elim
-      (λ e. figureAt-on t (map x rates) r (rw-ok .rising) i (le-of-lt h) e ∙ at ∙ sym (blend-left _ _ _ _ (rw-ok .rising i h)) ∙ ap (blend _ _ _ _) e)
+      (λ e. figureAt-on (axisOf t) (map x rates) r (rw-ok .rising) i (le-of-lt h) e ∙ at ∙ sym (blend-left _ _ _ _ (rw-ok .rising i h)) ∙ ap (blend _ _ _ _) e)
       (λ lt. ⊎-elim
-      (λ e. figureAt-on t (map x rates) r (rw-ok .rising) (suc i) h (sym e) ∙ at′ ∙ sym (blend-right _ _ _ _ (rw-ok .rising i h)) ∙ ap (blend _ _ _ _) (sym e))
-      (λ lt′. figureAt-between t (map x rates) r (rw-ok .rising) i h lt lt′ ∙ rw (at, at′))
+      (λ e. figureAt-on (axisOf t) (map x rates) r (rw-ok .rising) (suc i) h (sym e) ∙ at′ ∙ sym (blend-right _ _ _ _ (rw-ok .rising i h)) ∙ ap (blend _ _ _ _) (sym e))
+      (λ lt′. figureAt-between (axisOf t) (map x rates) r (rw-ok .rising) i h lt lt′ ∙ rw (at, at′))
       (eq-or-lt-of-le hi))
       (eq-or-lt-of-le lo)
 

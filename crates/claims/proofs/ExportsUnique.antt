@@ -11,16 +11,16 @@ use lib.Ieee.{Float}
 use Rattle.model.specs.Recording.{Recording}
 use Rattle.model.specs.Arrival.{Bucket}
 use Rattle.model.specs.Lookup.{Table}
-use Rattle.hrd.specs.declared.Params.{Params}
-use Rattle.planner.specs.declared.PlannerJudgement.{PlannerJudgement}
-use Rattle.planner.specs.declared.PlannerVerdict.{PlannerVerdict}
-use Rattle.planner.specs.declared.PlannerBucket.{PlannerBucket}
-use Rattle.planner.specs.declared.PlannerSeconds.{PlannerSeconds}
-use Rattle.planner.specs.declared.PlannerReading.{PlannerReading}
-use Rattle.planner.specs.declared.PlannerRead.{PlannerRead}
-use Rattle.planner.specs.declared.PlannerPosition.{PlannerPosition}
-use Rattle.planner.specs.declared.PlannerSheet.{PlannerSheet}
-use Rattle.planner.specs.declared.PlannerText.{PlannerText}
+use Rattle.params.specs.declared.Params.{Params}
+use Rattle.answers.specs.declared.recordings.PlannerJudgement.{PlannerJudgement}
+use Rattle.answers.specs.declared.recordings.PlannerVerdict.{PlannerVerdict}
+use Rattle.answers.specs.declared.figures.PlannerBucket.{PlannerBucket}
+use Rattle.answers.specs.declared.seconds.PlannerSeconds.{PlannerSeconds}
+use Rattle.answers.specs.declared.seconds.PlannerReading.{PlannerReading}
+use Rattle.answers.specs.declared.records.PlannerRead.{PlannerRead}
+use Rattle.answers.specs.declared.records.PlannerPosition.{PlannerPosition}
+use Rattle.answers.specs.declared.sheets.PlannerSheet.{PlannerSheet}
+use Rattle.answers.specs.declared.sheets.PlannerText.{PlannerText}
 use Rattle.claims.specs.Exports.{ExportedJudge, ExportedVerdict, ExportedSchedule, ExportedLeast, ExportedTable, ExportedLookup, ExportedSeconds, ExportedPanel, ExportedRead, ExportedWrite, ExportedRow, ExportedOpen, ExportedPrint}
 use Rattle.claims.proofs.Unique.{paramsOf-one}
 

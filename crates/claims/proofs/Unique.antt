@@ -13,10 +13,10 @@ use Rattle.model.specs.Arrival.{Bucket, bucket}
 use Rattle.model.specs.Lookup.{Table}
 use Rattle.model.specs.Outcomes as outcomes
 use Rattle.model.specs.Panel.{Seconds}
-use Rattle.model.specs.Params as params
-use Rattle.recording.specs.Outcome.{judgementOf}
-use Rattle.recording.specs.declared.Judgement.{Judgement}
-use Rattle.recording.specs.declared.Judgement.the-variants as judgement
+use Rattle.coding.specs.Params as params
+use Rattle.judgement.specs.Outcome.{judgementOf}
+use Rattle.judgement.specs.declared.Judgement.{Judgement}
+use Rattle.judgement.specs.declared.Judgement.the-variants as judgement
 use Rattle.schedule.specs.Outcome.{answerOf}
 use Rattle.schedule.specs.declared.Verdict.{Verdict}
 use Rattle.schedule.specs.declared.Verdict.the-variants as verdict
@@ -33,20 +33,19 @@ use Rattle.panel.specs.declared.Timed.{Timed}
 use Rattle.panel.specs.declared.Timed.the-variants as timed
 use Rattle.panel.specs.declared.Reading.{Reading}
 use Rattle.panel.specs.declared.Reading.the-variants as reading
-use Rattle.hrd.specs.Outcome as hrd
-use Rattle.hrd.specs.declared.Params.{Params}
-use Rattle.hrd.specs.declared.Judged.{Judged}
-use Rattle.hrd.specs.declared.Judged.the-variants as judged
-use Rattle.hrd.specs.declared.Position.{Position}
-use Rattle.hrd.specs.declared.Position.the-variants as position
-use Rattle.hrd.specs.declared.Found as read
-use Rattle.model.specs.Sheet as sheet
-use Rattle.sheet.specs.Outcome.{headOf, openedOf, printedOf}
+use Rattle.params.specs.Outcome.{paramsOf, positionOf}
+use Rattle.params.specs.declared.Params.{Params}
+use Rattle.params.specs.declared.Position.{Position}
+use Rattle.params.specs.declared.Position.the-variants as position
+use Rattle.params_read.specs.declared.ParamsRead.{ParamsRead}
+use Rattle.layout.specs.Sheet as sheet
+use Rattle.sheet.specs.Outcome.{headOf, openedOf}
+use Rattle.print.specs.Outcome.{printedOf}
 use Rattle.sheet.specs.declared.Head.{Head}
 use Rattle.sheet.specs.declared.Opened.{Opened}
 use Rattle.sheet.specs.declared.Opened.the-variants as opened
-use Rattle.sheet.specs.declared.Printed.{Printed}
-use Rattle.sheet.specs.declared.Printed.the-variants as printed
+use Rattle.print.specs.declared.Printed.{Printed}
+use Rattle.print.specs.declared.Printed.the-variants as printed
 use Rattle.claims.specs.Promises.{JudgePromise, VerdictPromise, SchedulePromise, LeastPromise, TablePromise, LookupPromise, SecondsPromise, PanelPromise, RecordPromise, ReadPromise, WritePromise, RowPromise, OpenPromise, PrintPromise}
 
 -- each answer is told by its meaning: no two variants say the same
@@ -106,13 +105,7 @@ readingOf-one (reading.Refused n i) (reading.Within x′) e = let z : _≡_ {A =
 readingOf-one (reading.Refused n i) (reading.Over x′ y′) e = let z : _≡_ {A = ℕ} 0 1 = cc in absurd (omega arith)
 readingOf-one (reading.Refused n i) (reading.Refused n′ i′) e = cc
 
-judged-one : (v w : Judged) → hrd.judgementOf v ≡ hrd.judgementOf w → v ≡ w
-judged-one judged.Passed judged.Passed e = refl
-judged-one judged.Passed (judged.Refused n′ i′) e = let z : _≡_ {A = ℕ} 0 1 = cc in absurd (omega arith)
-judged-one (judged.Refused n i) judged.Passed e = let z : _≡_ {A = ℕ} 0 1 = cc in absurd (omega arith)
-judged-one (judged.Refused n i) (judged.Refused n′ i′) e = cc
-
-positionOf-one : (v w : Position) → hrd.positionOf v ≡ hrd.positionOf w → v ≡ w
+positionOf-one : (v w : Position) → positionOf v ≡ positionOf w → v ≡ w
 positionOf-one (position.Next p) (position.Next p′) e = cc
 positionOf-one (position.Next p) (position.Refused n′ i′) e = let z : _≡_ {A = ℕ} 0 1 = cc in absurd (omega arith)
 positionOf-one (position.Refused n i) (position.Next p′) e = let z : _≡_ {A = ℕ} 0 1 = cc in absurd (omega arith)
@@ -134,7 +127,7 @@ codeParams p =
       «time_offset_length» = p .time-offset-length;
     }
 
-pub paramsOf-one : (v w : Params) → hrd.paramsOf v ≡ hrd.paramsOf w → v ≡ w
+pub paramsOf-one : (v w : Params) → paramsOf v ≡ paramsOf w → v ≡ w
 paramsOf-one v w e = ap codeParams e
 
 headOf-one : (v w : Head) → headOf v ≡ headOf w → v ≡ w
@@ -182,10 +175,10 @@ seconds-unique u v w p q = timedOf-one v w (p ∙ sym q)
 pub panel-unique : (u : Bucket) (limit : Float) (v w : Reading) → PanelPromise u limit v → PanelPromise u limit w → v ≡ w
 panel-unique u limit v w p q = readingOf-one v w (p ∙ sym q)
 
-pub record-unique : (p : Params) (v w : Judged) → RecordPromise p v → RecordPromise p w → v ≡ w
-record-unique p v w a b = judged-one v w (a ∙ sym b)
+pub record-unique : (p : Params) (v w : Judgement) → RecordPromise p v → RecordPromise p w → v ≡ w
+record-unique p v w a b = judgementOf-one v w (a ∙ sym b)
 
-pub read-unique : (bytes : List ℕ) (start : ℕ) (v w : read.Found) → ReadPromise bytes start v → ReadPromise bytes start w → v ≡ w
+pub read-unique : (bytes : List ℕ) (start : ℕ) (v w : ParamsRead) → ReadPromise bytes start v → ReadPromise bytes start w → v ≡ w
 read-unique bytes start v w a b =
     let same = a ∙ sym b in
     let position = positionOf-one (v .position) (w .position) (ap (λ (o : params.ParamsRead). o .answer) same) in

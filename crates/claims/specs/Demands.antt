@@ -16,13 +16,14 @@ use lib.Ieee.{Float}
 use Rattle.model.specs.Recording.{Recording, span}
 use Rattle.model.specs.Arrival.{Bucket, bucket}
 use Rattle.model.specs.Lookup.{Table, table}
-use Rattle.model.specs.Answers.{Answer, given, refused}
+use Rattle.terms.specs.Answers.{Answer, given, refused}
 use Rattle.model.specs.Outcomes.{judgeOutcome, verdictOutcome, scheduleOutcome, leastOutcome, tableOutcome, lookupOutcome}
 use Rattle.model.specs.Panel.{zeroSeconds, secondsOutcome, panelOutcome}
-use Rattle.model.specs.Params.{zeroParams, readOutcome, writeOutcome, rowVerdictOutcome}
+use Rattle.coding.specs.Params.{zeroParams, readOutcome, writeOutcome}
+use Rattle.row_verdict.specs.RowVerdict.{rowVerdictOutcome}
 use Rattle.model.specs.Faults.{badBucket}
 use Rattle.model.specs.Demands.{Allowed}
-use Rattle.model.specs.Sheet.{openOutcome, printOutcome}
+use Rattle.layout.specs.Sheet.{openOutcome, printOutcome}
 use Rattle.schedule.specs.declared.Verdict.{Verdict}
 use Rattle.schedule.specs.declared.Verdict.the-variants as verdict
 use Rattle.least.specs.declared.Figures.{Figures}
@@ -30,22 +31,22 @@ use Rattle.least.specs.declared.Figures.the-variants as figures
 use Rattle.least.specs.declared.Tabled.the-variants as tabled
 use Rattle.lookup.specs.declared.Found.{Found}
 use Rattle.lookup.specs.declared.Found.the-variants as found
-use Rattle.hrd.specs.Outcome.{paramsOf}
-use Rattle.hrd.specs.declared.Params.{Params}
-use Rattle.planner.specs.declared.PlannerJudgement.{PlannerJudgement}
-use Rattle.planner.specs.declared.PlannerVerdict.{PlannerVerdict}
-use Rattle.planner.specs.declared.PlannerBucket.{PlannerBucket}
-use Rattle.planner.specs.declared.PlannerSeconds.{PlannerSeconds}
-use Rattle.planner.specs.declared.PlannerReading.{PlannerReading}
-use Rattle.planner.specs.declared.PlannerRead.{PlannerRead}
-use Rattle.planner.specs.declared.PlannerPosition.{PlannerPosition}
-use Rattle.planner.specs.declared.PlannerSheet.{PlannerSheet}
-use Rattle.planner.specs.declared.PlannerText.{PlannerText}
+use Rattle.params.specs.Outcome.{paramsOf}
+use Rattle.params.specs.declared.Params.{Params}
+use Rattle.answers.specs.declared.recordings.PlannerJudgement.{PlannerJudgement}
+use Rattle.answers.specs.declared.recordings.PlannerVerdict.{PlannerVerdict}
+use Rattle.answers.specs.declared.figures.PlannerBucket.{PlannerBucket}
+use Rattle.answers.specs.declared.seconds.PlannerSeconds.{PlannerSeconds}
+use Rattle.answers.specs.declared.seconds.PlannerReading.{PlannerReading}
+use Rattle.answers.specs.declared.records.PlannerRead.{PlannerRead}
+use Rattle.answers.specs.declared.records.PlannerPosition.{PlannerPosition}
+use Rattle.answers.specs.declared.sheets.PlannerSheet.{PlannerSheet}
+use Rattle.answers.specs.declared.sheets.PlannerText.{PlannerText}
 use Rattle.claims.specs.Exports.{ExportedJudge, ExportedVerdict, ExportedSchedule, ExportedLeast, ExportedTable, ExportedLookup, ExportedSeconds, ExportedPanel, ExportedRead, ExportedWrite, ExportedRow, ExportedOpen, ExportedPrint}
 use Rattle.claims.specs.Promises.{VerdictPromise, LeastPromise, TablePromise, LookupPromise}
 
--- Demand 1. "Any bytes, any lists, any numbers get an answer. .. a refusal gives its number and place, zeros for results, and writes
--- nothing in the caller's lists." Clear is what a refusal leaves: all figures 0, every lent list as it was.
+-- Demand 1. "Any bytes, any lists, any numbers get an answer." "a refusal gives its number and place, zeros for results, and writes nothing
+-- in the caller's lists." Clear is what a refusal leaves: all figures 0, every lent list as it was.
 pub record Told {A : Type 0} (a : Answer A) (kind number place : ℕ) (Clear : Type 0) : Type 0 where
   pub answers : (x : A) → a ≡ given x → (1 ≤ kind) × (number ≡ 0) × (place ≡ 0)
   pub refuses : (n i : ℕ) → a ≡ refused n i → (kind ≡ 0) × (number ≡ n) × (place ≡ i) × Clear
@@ -123,8 +124,8 @@ Demand2Answers =
     → LeastPromise k rate (figures.Least leastB leastF) → (v ≡ verdict.Holds) ↔ ((leastB ≤ b) × (leastF ≤ f))
 
 -- Demand 3. "r from a to b: buffer and fullness interpolated straight and rounded up hold the recording at r, and each exceeds the least
--- figure at r by less than 2 bits plus the duration in seconds .. times (r-a)(b-r)/(b-a)": what the planner answers at a rate r between
--- two neighbouring rows, ends included.
+-- figure at r by less than 2 bits plus the duration in seconds (first removal to last) times (r-a)(b-r)/(b-a), in exact arithmetic.": what the
+-- planner answers at a rate r between two neighbouring rows, ends included.
 pub record Between (k : Recording) (ra rb r : ℕ) (a : Found) (v : ℕ → ℕ → Verdict → Type 0) (l : Figures → Type 0) : Type 0 where
   pub buffer : ℕ
   pub fullness : ℕ

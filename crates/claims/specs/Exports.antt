@@ -22,20 +22,25 @@ use Rattle.model.specs.Arrival.{Bucket}
 use Rattle.model.specs.Lookup.{Table}
 use Rattle.model.specs.Outcomes.{judgeOutcome, verdictOutcome, scheduleOutcome, leastOutcome, tableOutcome, lookupOutcome}
 use Rattle.model.specs.Panel.{secondsOutcome, panelOutcome}
-use Rattle.model.specs.Params.{readOutcome, writeOutcome, rowVerdictOutcome}
-use Rattle.model.specs.Sheet.{openOutcome, printOutcome}
-use Rattle.hrd.specs.Outcome.{paramsOf}
-use Rattle.hrd.specs.declared.Params.{Params}
-use Rattle.planner.specs.Answers.{judgementAnswer, verdictAnswer, scheduleAnswer, bucketAnswer, secondsAnswer, readingAnswer, tableAnswer, readAnswer, writeAnswer, openAnswer, printAnswer}
-use Rattle.planner.specs.declared.PlannerJudgement.{PlannerJudgement}
-use Rattle.planner.specs.declared.PlannerVerdict.{PlannerVerdict}
-use Rattle.planner.specs.declared.PlannerBucket.{PlannerBucket}
-use Rattle.planner.specs.declared.PlannerSeconds.{PlannerSeconds}
-use Rattle.planner.specs.declared.PlannerReading.{PlannerReading}
-use Rattle.planner.specs.declared.PlannerRead.{PlannerRead}
-use Rattle.planner.specs.declared.PlannerPosition.{PlannerPosition}
-use Rattle.planner.specs.declared.PlannerSheet.{PlannerSheet}
-use Rattle.planner.specs.declared.PlannerText.{PlannerText}
+use Rattle.coding.specs.Params.{readOutcome, writeOutcome}
+use Rattle.row_verdict.specs.RowVerdict.{rowVerdictOutcome}
+use Rattle.layout.specs.Sheet.{openOutcome, printOutcome}
+use Rattle.params.specs.Outcome.{paramsOf}
+use Rattle.params.specs.declared.Params.{Params}
+use Rattle.answers.specs.Recordings.{judgementAnswer, verdictAnswer, scheduleAnswer}
+use Rattle.answers.specs.Figures.{bucketAnswer, tableAnswer}
+use Rattle.answers.specs.Seconds.{secondsAnswer, readingAnswer}
+use Rattle.answers.specs.Records.{readAnswer, writeAnswer}
+use Rattle.answers.specs.Sheets.{openAnswer, printAnswer}
+use Rattle.answers.specs.declared.recordings.PlannerJudgement.{PlannerJudgement}
+use Rattle.answers.specs.declared.recordings.PlannerVerdict.{PlannerVerdict}
+use Rattle.answers.specs.declared.figures.PlannerBucket.{PlannerBucket}
+use Rattle.answers.specs.declared.seconds.PlannerSeconds.{PlannerSeconds}
+use Rattle.answers.specs.declared.seconds.PlannerReading.{PlannerReading}
+use Rattle.answers.specs.declared.records.PlannerRead.{PlannerRead}
+use Rattle.answers.specs.declared.records.PlannerPosition.{PlannerPosition}
+use Rattle.answers.specs.declared.sheets.PlannerSheet.{PlannerSheet}
+use Rattle.answers.specs.declared.sheets.PlannerText.{PlannerText}
 
 abbrev pub ExportedJudge : Recording → PlannerJudgement → Type 0
 ExportedJudge k r = r ≡ judgementAnswer (judgeOutcome k)

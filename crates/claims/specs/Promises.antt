@@ -1,6 +1,6 @@
 -- What each public operation promises of its answer: its own `ensures`, under one name. A statement about these is one about every
 -- answer that the code can give.
---     JudgePromise      recording::judge
+--     JudgePromise      judging::judge
 --     VerdictPromise    schedule::bucket_verdict
 --     SchedulePromise   schedule::schedule, with its two lists afterwards
 --     LeastPromise      least::least
@@ -8,12 +8,12 @@
 --     LookupPromise     lookup::look_up
 --     SecondsPromise    panel::seconds_of
 --     PanelPromise      panel::panel
---     RecordPromise     hrd::judge_params
---     ReadPromise       hrd::read_params
---     WritePromise      hrd::write_params, with its bytes afterwards
---     RowPromise        verdict::row_verdict
+--     RecordPromise     params::judge_params
+--     ReadPromise       params_read::read_params
+--     WritePromise      params_write::write_params, with its bytes afterwards
+--     RowPromise        row_verdict::row_verdict
 --     OpenPromise       sheet::open_sheet, with its three lists afterwards
---     PrintPromise      sheet::print_sheet, with its bytes afterwards
+--     PrintPromise      print::print_sheet, with its bytes afterwards
 -- Assumes nothing.
 use Prim.Native.Nat.{ℕ}
 use mathlib.Core.Path.{_≡_}
@@ -24,10 +24,11 @@ use Rattle.model.specs.Arrival.{Bucket}
 use Rattle.model.specs.Lookup.{Table}
 use Rattle.model.specs.Outcomes.{judgeOutcome, verdictOutcome, scheduleOutcome, leastOutcome, tableOutcome, lookupOutcome}
 use Rattle.model.specs.Panel.{secondsOutcome, panelOutcome}
-use Rattle.model.specs.Params.{paramsJudged, readOutcome, writeOutcome, rowVerdictOutcome}
-use Rattle.model.specs.Sheet.{openOutcome, printOutcome}
-use Rattle.recording.specs.Outcome.{judgementOf}
-use Rattle.recording.specs.declared.Judgement.{Judgement}
+use Rattle.coding.specs.Params.{paramsJudged, readOutcome, writeOutcome}
+use Rattle.row_verdict.specs.RowVerdict.{rowVerdictOutcome}
+use Rattle.layout.specs.Sheet.{openOutcome, printOutcome}
+use Rattle.judgement.specs.Outcome.{judgementOf}
+use Rattle.judgement.specs.declared.Judgement.{Judgement}
 use Rattle.schedule.specs.Outcome.{answerOf, scheduled}
 use Rattle.schedule.specs.declared.Verdict.{Verdict}
 use Rattle.least.specs.Outcome.{figuresOf, tabled}
@@ -38,14 +39,16 @@ use Rattle.lookup.specs.declared.Found.{Found}
 use Rattle.panel.specs.Outcome.{timedOf, readingOf}
 use Rattle.panel.specs.declared.Timed.{Timed}
 use Rattle.panel.specs.declared.Reading.{Reading}
-use Rattle.hrd.specs.Outcome as hrd
-use Rattle.hrd.specs.declared.Params.{Params}
-use Rattle.hrd.specs.declared.Judged.{Judged}
-use Rattle.hrd.specs.declared.Position.{Position}
-use Rattle.hrd.specs.declared.Found as read
-use Rattle.sheet.specs.Outcome.{opened, printed}
+use Rattle.params.specs.Outcome.{paramsOf}
+use Rattle.params_read.specs.Outcome.{paramsReadOf}
+use Rattle.params_write.specs.Outcome.{paramsWritten}
+use Rattle.params.specs.declared.Params.{Params}
+use Rattle.params.specs.declared.Position.{Position}
+use Rattle.params_read.specs.declared.ParamsRead.{ParamsRead}
+use Rattle.sheet.specs.Outcome.{opened}
+use Rattle.print.specs.Outcome.{printed}
 use Rattle.sheet.specs.declared.Opened.{Opened}
-use Rattle.sheet.specs.declared.Printed.{Printed}
+use Rattle.print.specs.declared.Printed.{Printed}
 
 abbrev pub JudgePromise : Recording → Judgement → Type 0
 JudgePromise k r = judgementOf r ≡ judgeOutcome k
@@ -71,17 +74,17 @@ SecondsPromise u r = timedOf r ≡ secondsOutcome u
 abbrev pub PanelPromise : Bucket → (limit : Float) → Reading → Type 0
 PanelPromise u limit r = readingOf r ≡ panelOutcome u limit
 
-abbrev pub RecordPromise : Params → Judged → Type 0
-RecordPromise params r = hrd.judgementOf r ≡ paramsJudged (hrd.paramsOf params)
+abbrev pub RecordPromise : Params → Judgement → Type 0
+RecordPromise params r = judgementOf r ≡ paramsJudged (paramsOf params)
 
-abbrev pub ReadPromise : (bytes : List ℕ) (start : ℕ) → read.Found → Type 0
-ReadPromise bytes start r = hrd.paramsRead r ≡ readOutcome bytes start
+abbrev pub ReadPromise : (bytes : List ℕ) (start : ℕ) → ParamsRead → Type 0
+ReadPromise bytes start r = paramsReadOf r ≡ readOutcome bytes start
 
 abbrev pub WritePromise : Params → (bytes : List ℕ) (start : ℕ) → Position → (after : List ℕ) → Type 0
-WritePromise params bytes start r after = hrd.paramsWritten r after ≡ writeOutcome (hrd.paramsOf params) bytes start
+WritePromise params bytes start r after = paramsWritten r after ≡ writeOutcome (paramsOf params) bytes start
 
 abbrev pub RowPromise : Recording → Params → (row fullness : ℕ) → Verdict → Type 0
-RowPromise k params row fullness r = answerOf r ≡ rowVerdictOutcome k (hrd.paramsOf params) row fullness
+RowPromise k params row fullness r = answerOf r ≡ rowVerdictOutcome k (paramsOf params) row fullness
 
 abbrev pub OpenPromise : (bytes l m n : List ℕ) → Opened → (sizes ticks rates : List ℕ) → Type 0
 OpenPromise bytes l m n r sizes ticks rates = opened r sizes ticks rates ≡ openOutcome bytes l m n

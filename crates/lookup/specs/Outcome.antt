@@ -3,7 +3,7 @@
 -- Assumes nothing.
 use Prim.Native.Nat.{ℕ}
 use Rattle.model.specs.Arrival as arrival
-use Rattle.model.specs.Answers.{Answer, given, refused}
+use Rattle.terms.specs.Answers.{Answer, given, refused}
 use Rattle.lookup.specs.declared.Found.{Found}
 use Rattle.lookup.specs.declared.Found.the-variants.{Bucket, Refused}
 

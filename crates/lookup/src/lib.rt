@@ -1,23 +1,22 @@
 // A bucket for any rate, looked up in a table that is handed in. Serves document 01, "Looking up a rate in a table".
-use recording::Judgement;
+use judgement::Judgement;
 use rules::BUCKET;
 use rules::CLOCK;
 use rules::LENGTHS;
-use rules::RATE;
-use rules::ROWS_MAX;
 use rules::SPAN_MAX;
 ghost use mathlib.Core.Path.{_≡_};
 ghost use Prim.Native.Nat.{_*_, _≤_, _<_};
 ghost use lib.ListN.{length};
+ghost use Rattle.rules.specs.Refusals as refusal;
 ghost use Rattle.rules.specs.Limits.{rateMax, bucketMax, nuMax, spanMax, tsMax};
-ghost use Rattle.model.specs.Numbers.{roundUp};
-ghost use Rattle.model.specs.Lookup.{table, rowsUpTo, blend as blendOf, figureAt};
-ghost use Rattle.model.specs.Answers.{FirstBad, lowest};
-ghost use Rattle.model.specs.Faults.{badRow, lookupFaults};
+ghost use Rattle.terms.specs.Numbers.{roundUp};
+ghost use Rattle.terms.specs.Answers.{FirstBad, firstFault, lowest};
+ghost use Rattle.model.specs.Lookup.{table, axis, rowsUpTo, blend as blendOf, figureAt};
+ghost use Rattle.model.specs.Faults.{badSpan, badRow, lookupFaults};
 ghost use Rattle.model.specs.Outcomes.{lookupOutcome};
-ghost use Rattle.recording.specs.Outcome.{judgementOf};
+ghost use Rattle.judgement.specs.Outcome.{judgementOf};
 ghost use Rattle.lookup.specs.Outcome.{foundOf};
-ghost use Rattle.lookup.specs.Judged.{FigureReady};
+ghost use Rattle.lookup.specs.Ready.{FigureReady};
 
 // Buffer and start fullness; or a refusal, its number and its place.
 pub enum Found {
@@ -32,7 +31,7 @@ fn first_bad_row(buffers: &[u64], fulls: &[u64]) -> usize
 {
     let mut i = 0;
     while i < buffers.len() {
-        if recording::is_bad_bucket(buffers[i], fulls[i]) {
+        if judging::is_bad_bucket(buffers[i], fulls[i]) {
             return i;
         }
         i += 1;
@@ -59,7 +58,7 @@ fn blend(ra: u64, rb: u64, xa: u64, xb: u64, r: u64) -> u64
     requires { ⌜ (ra < rb) × (rb ≤ rateMax) × (1 ≤ ra) × (ra ≤ r) × (r ≤ rb) × (xa ≤ bucketMax) × (xb ≤ bucketMax) ⌝ }
     ensures { λ y. ⌜ y ≡ blendOf ra rb xa xb r ⌝ }
 {
-    (xa * (rb - r) + xb * (r - ra) + (rb - ra - 1)) / (rb - ra)
+    numbers::round_up(xa * (rb - r) + xb * (r - ra), rb - ra)
 }
 
 // By how much a figure grows p bits per second below the first row.
@@ -67,13 +66,13 @@ fn growth(p: u64, ts: u64, nu: u64, span: u64) -> u64
     requires { ⌜ (p < rateMax) × (1 ≤ ts) × (ts ≤ tsMax) × (nu ≤ nuMax) × (span ≤ spanMax) ⌝ }
     ensures { λ r. ⌜ (r ≡ roundUp (p * nu * span) ts) × (r ≤ p * nu * span) ⌝ }
 {
-    (p * nu * span + (ts - 1)) / ts
+    numbers::round_up(p * nu * span, ts)
 }
 
 // The figure X at a rate, from the last row at or below it, X being the buffers or the fullnesses of a table that was judged.
 fn figure(rates: &[u64], xs: &[u64], ts: u64, nu: u64, span: u64, rate: u64, row: usize) -> u64
-    requires { ⌜ FigureReady (table (now rates) (now xs) (now xs) ts nu span) (now xs) × (row ≡ rowsUpTo (now rates) rate (length (now rates))) × (row ≤ length (now rates)) × (1 ≤ rate) ⌝ }
-    ensures { λ r. ⌜ r ≡ figureAt (table (now (rates .entry)) (now (xs .entry)) (now (xs .entry)) ts nu span) (now (xs .entry)) rate ⌝ }
+    requires { ⌜ FigureReady (axis (now rates) ts nu span) (now xs) × (row ≡ rowsUpTo (now rates) rate (length (now rates))) × (row ≤ length (now rates)) × (1 ≤ rate) ⌝ }
+    ensures { λ r. ⌜ r ≡ figureAt (axis (now (rates .entry)) ts nu span) (now (xs .entry)) rate ⌝ }
 {
     if row == 0 {
         return xs[0] + growth(rates[0] - rate, ts, nu, span);
@@ -86,6 +85,25 @@ fn figure(rates: &[u64], xs: &[u64], ts: u64, nu: u64, span: u64, rate: u64, row
         return xs[a];
     }
     blend(rates[a], rates[row], xs[a], xs[row], rate)
+}
+
+// Whether TS, NU or the span is out of range.
+fn is_bad_span(ts: u64, nu: u64, span: u64) -> bool
+    ensures { λ r. ⌜ r ≡ badSpan ts nu span ⌝ }
+{
+    if judging::is_bad_clock(ts, nu) {
+        return true;
+    }
+    SPAN_MAX < span
+}
+
+// Judges the buffers and fullnesses of as many rows as both lists have: refusal 7.
+fn judge_rows(buffers: &[u64], fulls: &[u64]) -> Judgement
+    requires { ⌜ length (now fulls) ≡ length (now buffers) ⌝ }
+    ensures { λ r. ⌜ judgementOf r ≡ firstFault refusal.bucket (badRow (now (buffers .entry)) (now (fulls .entry))) (length (now (buffers .entry))) ⌝ }
+{
+    let bad = first_bad_row(buffers, fulls);
+    judgement::refuse_if(bad < buffers.len(), BUCKET, bad)
 }
 
 // Judges a table, its clock and span, and the rate asked: refusals 2, 3, 6 and 7.
@@ -107,27 +125,12 @@ fn judge(
     if fulls.len() != n {
         return Judgement::Refused(LENGTHS, 0);
     }
-    if recording::is_bad_clock(ts, nu) {
-        return Judgement::Refused(CLOCK, 0);
-    }
-    if SPAN_MAX < span {
-        return Judgement::Refused(CLOCK, 0);
-    }
-    if recording::is_outside(1, ROWS_MAX as u64, n as u64) {
-        return Judgement::Refused(RATE, 0);
-    }
-    let bad_rate = recording::first_bad_rate(rates);
-    if bad_rate < n {
-        return Judgement::Refused(RATE, bad_rate);
-    }
-    if recording::is_bad_rate(rate) {
-        return Judgement::Refused(RATE, 0);
-    }
-    let bad_row = first_bad_row(buffers, fulls);
-    if bad_row < n {
-        return Judgement::Refused(BUCKET, bad_row);
-    }
-    Judgement::Passed
+    let rows = judgement::lower(judging::judge_rate(rate), judge_rows(buffers, fulls));
+    let rated = judgement::lower(judging::judge_rates(rates), rows);
+    judgement::lower(
+        judgement::refuse_if(is_bad_span(ts, nu, span), CLOCK, 0),
+        rated,
+    )
 }
 
 // Buffer and start fullness for any rate: refusals 2, 3, 6 and 7.

@@ -19,7 +19,7 @@ use lib.ListN.{length}
 use Rattle.model.specs.Recording.{Recording, Recorded, pictures, distance}
 use Rattle.model.specs.Arrival.{Bucket, removal, earliest, arrivalStart, arrivalEnd, lateBy, Verdict, holds, late, then, verdictBelow, verdictOf, starts, ends}
 use Rattle.model.specs.Least.{bitsBefore}
-use Rattle.model.proofs.NumbersLaws.{listOf-length}
+use Rattle.terms.proofs.NumbersLaws.{listOf-length}
 
 pub arrivalStart-later : (k : Recording) (u : Bucket) (i : ℕ)
     → (arrivalEnd k u i ≤ arrivalStart k u (suc i))

@@ -1,60 +1,36 @@
--- The starred cases of document 01, "Worked figures", computed from the definitions: one list, one claim. And its printed table.
+-- The starred cases of document 01, "Worked figures", that are of recordings, computed from the definitions. With those of parameter bits they
+-- are one list with one claim in claims/proofs/Starred.antt.
 --     Figure      what a case shows: numbers, or the answer of an operation
---     computed    every starred case, in the document's order
+--     computed    the cases, in the document's order
 --     expected    what the document says of each
 --     starred     they are equal
---     sheetBytes, printed, printed-figures, printed-refusal    a sheet of recording D prints the table in "The sheet and the printed
---                 table", one of E its buffer before its start, and one whose tick 3 does not rise the refusal line there
 -- Definitions: specs/. Assumes nothing.
-use Prim.Native.Nat.{ℕ, _+_, _-_, _*_, _/_, _%_}
+use Prim.Native.Nat.{ℕ, _-_, _*_}
 use mathlib.Core.Path.{_≡_, refl}
 use mathlib.Core.List.{List, [], _∷_, _++_}
-use lib.ListN.{length, getD, replicate}
-use Rattle.rules.specs.Refusals as refusal
-use Rattle.model.specs.Numbers.{largest, listOf}
-use Rattle.model.specs.Recording.{Recording, recording, pictures, span}
+use lib.ListN.{getD, replicate}
+use Rattle.terms.specs.Numbers.{largest, listOf}
+use Rattle.model.specs.Recording.{Recording, recording, span}
 use Rattle.model.specs.Arrival.{Bucket, bucket, arrivalStart, Verdict, holds, late, verdictBelow, starts, ends}
 use Rattle.model.specs.Least.{bitsBefore, leastBuffer}
 use Rattle.model.specs.Lookup.{Table, table, rowsUpTo, lookupOf}
-use Rattle.model.specs.Answers.{Answer, given, refused, refuseIf, firstFault, lowest, first}
+use Rattle.terms.specs.Answers.{Answer, given, refuseIf, firstFault, lowest}
 use Rattle.model.specs.Outcomes.{verdictOutcome, leastOutcome, lookupOutcome}
 use Rattle.model.specs.Demands.{allowance}
-use Rattle.model.specs.Codes.{unsigned, zerosFrom}
-use Rattle.model.specs.Fields.{rowFields, readFields}
-use Rattle.model.specs.Params.{Params, rowRate, rowSize, readOutcome}
-use Rattle.model.specs.Text.{letters, digits, rowLines}
-use Rattle.model.specs.Sheet.{sheetText}
 
 pub data Figure : Type 0 where
   numbers : List ℕ → Figure
   verdict : Answer Verdict → Figure
   figures : Answer Bucket → Figure
-  position : Answer ℕ → Figure
 
-upTo : ℕ → List ℕ
-unfolding listOf
+abbrev pub upTo : ℕ → List ℕ
 upTo n = listOf (λ i. i) n
 
-pub recordingD : Recording
-unfolding upTo
+unfoldable pub recordingD : Recording
 recordingD = recording (5000 ∷ replicate 5 1000 ++ replicate 6 500) (upTo 12) 1 1
 
-pub recordingE : Recording
-unfolding upTo
+unfoldable pub recordingE : Recording
 recordingE = recording (100 ∷ 100 ∷ 900 ∷ 100 ∷ []) (upTo 4) 1 1
-
--- what a record says of its first row, and the four lengths as coded
-firstRow : Params → List ℕ
-firstRow p =
-    p .cpb-cnt
-    ∷ rowRate p 0
-    ∷ rowSize p 0
-    ∷ getD (p .cbr-flag) 0 0
-    ∷ p .initial-cpb-removal-delay-length-minus1
-    ∷ p .cpb-removal-delay-length-minus1
-    ∷ p .dpb-output-delay-length-minus1
-    ∷ p .time-offset-length
-    ∷ []
 
 -- the table of least figures of recording D at the given rates, asked with its own span
 rowsOfD : List ℕ → List ℕ → Table
@@ -62,7 +38,7 @@ unfolding recordingD
 rowsOfD rates xs = table rates xs xs 1 1 (span recordingD)
 
 pub computed : List Figure
-unfolding recordingD recordingE rowsOfD firstRow
+unfolding recordingD recordingE rowsOfD
 computed =
     numbers (starts recordingD (bucket 1000 10000 10000))
     ∷ numbers (getD (ends recordingD (bucket 1000 10000 10000)) 11 0 ∷ [])
@@ -84,9 +60,6 @@ computed =
     ∷ verdict (verdictOutcome recordingE (bucket 300 899 500))
     ∷ verdict (verdictOutcome recordingE (bucket 300 900 499))
     ∷ figures (leastOutcome (recording (10 ∷ 10 ∷ []) (0 ∷ 1 ∷ []) 3 1) 10)
-    ∷ numbers (firstRow (readOutcome (0x80 ∷ 0x6B ∷ 0xDE ∷ 0xF8 ∷ []) 0 .params))
-    ∷ position (readOutcome (0x80 ∷ 0x6B ∷ 0xDE ∷ 0xF8 ∷ []) 0 .answer)
-    ∷ position (readOutcome (0x80 ∷ 0x6B ∷ 0xDE ∷ []) 0 .answer)
     ∷ []
 
 pub expected : List Figure
@@ -109,39 +82,8 @@ expected =
     ∷ verdict (given (late 2 1))
     ∷ verdict (given (late 2 1))
     ∷ figures (given (bucket 10 17 17))
-    ∷ numbers (1 ∷ 64 ∷ 16 ∷ 0 ∷ 23 ∷ 23 ∷ 23 ∷ 24 ∷ [])
-    ∷ position (given 32)
-    ∷ position (refused refusal.short 0)
     ∷ []
 
 pub starred : computed ≡ expected
-unfolding computed expected largest listOf arrivalStart verdictBelow bitsBefore rowsUpTo refuseIf firstFault lowest unsigned zerosFrom rowFields readFields
+unfolding computed expected largest listOf arrivalStart verdictBelow bitsBefore rowsUpTo refuseIf firstFault lowest
 starred = refl
-
--- a word's four bytes, the lowest first
-word : ℕ → List ℕ
-word x = x % 256 ∷ x / 256 % 256 ∷ x / 65536 % 256 ∷ x / 16777216 ∷ []
-
-words : List ℕ → List ℕ
-unfolding word
-words [] = []
-words (x ∷ more) = word x ++ words more
-
--- a recording and its rates as a sheet
-pub sheetBytes : Recording → (rates : List ℕ) → List ℕ
-unfolding words
-sheetBytes k rates =
-    let n : ℕ = pictures k in
-    words (n ∷ 28 ∷ (28 + 4 * n) ∷ length rates ∷ (28 + 8 * n) ∷ k .ts ∷ k .nu ∷ k .sizes ++ (k .ticks ++ rates))
-
-pub printed : sheetText (sheetBytes recordingD (250 ∷ 500 ∷ 1000 ∷ [])) ≡ letters "rate buffer start\n250 10250 10250\n500 7500 7500\n1000 5000 5000\n"
-unfolding sheetBytes recordingD largest listOf bitsBefore refuseIf firstFault lowest first digits rowLines letters
-printed = refl
-
-pub printed-figures : sheetText (sheetBytes recordingE (300 ∷ [])) ≡ letters "rate buffer start\n300 900 500\n"
-unfolding sheetBytes recordingE largest listOf bitsBefore refuseIf firstFault lowest first digits rowLines letters
-printed-figures = refl
-
-pub printed-refusal : sheetText (sheetBytes (recording (1 ∷ 1 ∷ 1 ∷ 1 ∷ []) (0 ∷ 1 ∷ 2 ∷ 2 ∷ []) 1 1) (250 ∷ [])) ≡ letters "refused 5 at 3\n"
-unfolding sheetBytes listOf refuseIf firstFault lowest first digits letters
-printed-refusal = refl

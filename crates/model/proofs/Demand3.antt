@@ -3,8 +3,8 @@
 --                      below its chords
 --     need-lines       what one span needs is such a figure, t being NU x the span of the recording
 --     largest-lines    so is the largest of such figures
---     chord-holds      interpolated and rounded up it is at least the figure between
---     chord-excess     and exceeds it by less than the allowance
+--     chord-le         interpolated and rounded up it is at least the figure between
+--     excess-lt        and exceeds it by less than the allowance
 --     demand3-holds    the interpolated bucket holds the recording at r
 --     demand3-excess   and exceeds each least figure at r by less than the allowance
 -- Assumes nothing.
@@ -13,11 +13,11 @@ use native.Mathlib.Nat.{le-trans, le-of-lt, mul-le-mul-left, mul-le-mul-right, l
 use native.Mathlib.Decide.{decLe}
 use native.Mathlib.Omega.{arith}
 use mathlib.Core.Path.{_≡_, sym, ap, _∙_, subst, subst⁻¹}
-use Rattle.model.specs.Numbers.{roundUp, largest}
+use Rattle.terms.specs.Numbers.{roundUp, largest}
 use Rattle.model.specs.Recording.{Recording, Recorded, pictures, distance, span}
 use Rattle.model.specs.Least.{bitsFromTo, need, fullnessNeed, bufferNeed, leastFullness, leastBuffer}
 use Rattle.model.specs.Demands.{allowed, between, Demand3Holds, Demand3Excess}
-use Rattle.model.proofs.NumbersLaws.{roundUp-le, roundUp-above, roundUp-lt, roundUp-mono, largest-above, largest-le, largest-scaled}
+use Rattle.terms.proofs.NumbersLaws.{roundUp-le, roundUp-above, roundUp-lt, roundUp-mono, largest-above, largest-le, largest-scaled}
 use Rattle.model.proofs.RecordingLaws.{distance-le}
 use Rattle.model.proofs.LeastLaws.{leastFullness-buffer, leastFullness-some}
 use Rattle.model.proofs.LookupLaws.{blend-above, blend-lt}

@@ -1,11 +1,9 @@
 -- What the checks of an operation say together. Definitions: specs/Faults.antt.
---     outside-false            a number is not outside its range exactly when it keeps both ends
 --     entryBefore-more         one entry on, the entry before is this one
 --     badTick-after            after the first picture a tick is judged by the one before it and the first
 --     recordingFaults-ascending, verdictFaults-ascending, scheduleFaults-ascending, leastFaults-ascending,
 --     tableFaults-ascending, lookupFaults-ascending, secondsFaults-ascending
 --                              the checks of an operation stand in the order of their numbers, so that the lowest is the first
---     roomCheck-passed         a list with room passes
 --     judge-first              so a recording's refusal is the first
 --     faults-after             and after those of a recording further checks are judged where the recording passes
 --     verdictFaults-first      so a rate and a bucket are judged after the recording
@@ -19,7 +17,7 @@ use Prim.Native.Nat.{ℕ, zero, suc, _+_, _-_, _≤_, _<_}
 use native.Mathlib.Nat.{not-suc-le-zero}
 use native.Mathlib.Numerals.{add-one}
 use mathlib.Core.Path.{_≡_, refl, sym, ap, _∙_}
-use mathlib.Core.Bool.{Bool, true, false, not, _||_, true≢false}
+use mathlib.Core.Bool.{false, not, _||_}
 use mathlib.Core.Logic.{_↔_, Iff·trans}
 use mathlib.Core.List.{List, _++_}
 use lib.Dec.{leb, ltb}
@@ -30,19 +28,12 @@ use Rattle.rules.specs.Refusals as refusal
 use Rattle.model.specs.Recording.{Recording, Recorded, Within, pictures, size, tick, distance}
 use Rattle.model.specs.Arrival.{Bucket}
 use Rattle.model.specs.Lookup.{Table}
-use Rattle.model.specs.Answers.{Judgement, passed, orElse, lowest, first}
-use Rattle.model.specs.Faults.{outside, picturesCheck, lengthsCheck, clockCheck, badClock, sizeCheck, badSize, entryBefore, badTick, tickCheck, badRate, badRateAt, rateListCheck, RatesWithin, roomCheck, recordingFaults, verdictFaults, scheduleFaults, leastFaults, tableFaults, lookupFaults, secondsFaults}
+use Rattle.terms.specs.Answers.{Judgement, passed, orElse, lowest, first}
+use Rattle.terms.specs.Numbers.{outside}
+use Rattle.model.specs.Faults.{picturesCheck, lengthsCheck, clockCheck, badClock, sizeCheck, badSize, entryBefore, badTick, tickCheck, badRate, badRateAt, rateListCheck, RatesWithin, recordingFaults, verdictFaults, scheduleFaults, leastFaults, tableFaults, lookupFaults, secondsFaults}
 use Rattle.model.specs.Outcomes.{judgeOutcome}
-use Rattle.model.proofs.AnswersLaws.{refuseIf-passed, test-false, first-passed, firstFault-passed, Ascending, none, test, list, lowest-first, orElse-passed, lowest-append}
-
-pub or-false : (a b : Bool) → (a || b ≡ false) ↔ ((a ≡ false) × (b ≡ false))
-or-false true b = (λ e. absurd (true≢false e), λ h. absurd (true≢false (h .0)))
-or-false false b = (λ e. (refl, e), λ h. h .1)
-
-pub outside-false : (lo hi x : ℕ) → (outside lo hi x ≡ false) ↔ ((lo ≤ x) × (x ≤ hi))
-outside-false lo hi x =
-    let both = or-false (ltb x lo) (ltb hi x) in
-    (λ e. (ltb-false x lo (both .0 e .0), ltb-false hi x (both .0 e .1)), λ h. both .1 (le-ltb x lo (h .0), le-ltb hi x (h .1)))
+use Rattle.terms.proofs.NumbersLaws.{or-false, outside-false}
+use Rattle.terms.proofs.AnswersLaws.{refuseIf-passed, first-passed, firstFault-passed, Ascending, none, test, list, lowest-first, orElse-passed, lowest-append}
 
 pub entryBefore-more : (l : List ℕ) (i : ℕ) → entryBefore l (i + 1) ≡ getD l i 0
 entryBefore-more l i = rw add-one
@@ -50,9 +41,6 @@ entryBefore-more l i = rw add-one
 pub badTick-after : (ticks : List ℕ) (i : ℕ) → 1 ≤ i → badTick ticks i ≡ (leb (getD ticks i 0) (entryBefore ticks i) || ltb spanMax (getD ticks i 0 - getD ticks 0 0))
 badTick-after ticks zero h = absurd (not-suc-le-zero h)
 badTick-after ticks (suc i) h = refl
-
-pub roomCheck-passed : (l : List ℕ) (at n : ℕ) → at + n ≤ length l → roomCheck l at n ≡ passed
-roomCheck-passed l at n h = test-false refusal.room 0 (le-ltb (length l) (at + n) h)
 
 pub recordingFaults-ascending : (k : Recording) {js : List Judgement} → Ascending refusal.tick js → Ascending refusal.pictures (recordingFaults k ++ js)
 recordingFaults-ascending k h =

@@ -15,10 +15,10 @@ use mathlib.Core.Path.{_≡_, ap}
 use mathlib.Core.Logic.{_↔_, ⊎-elim}
 use Rattle.rules.specs.Limits.{picturesMax, sizeMax, bucketMax}
 use Rattle.rules.proofs.Fits.{bits-fits}
-use Rattle.model.specs.Numbers.{largest}
+use Rattle.terms.specs.Numbers.{largest}
 use Rattle.model.specs.Recording.{Recording, Recorded, pictures, size, tick, distance}
 use Rattle.model.specs.Least.{bitsBefore, need, fullnessNeed, bufferNeed, leastFullness, leastBuffer}
-use Rattle.model.proofs.NumbersLaws.{roundUp-le, roundUp-mono, largest-above, largest-le}
+use Rattle.terms.proofs.NumbersLaws.{roundUp-le, roundUp-mono, largest-above, largest-le}
 
 pub bitsBefore-mono : (k : Recording) (i j : ℕ) → i ≤ j → bitsBefore k i ≤ bitsBefore k j
 unfolding bitsBefore

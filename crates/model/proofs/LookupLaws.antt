@@ -3,7 +3,6 @@
 --     blend-lt           and exceeds it by less than 1
 --     rowsUpTo-last      what the last row at or below a rate is
 --     rowsUpTo-row       the last row at or below a rate is the one with no such row after it
---     figureAt-same      a figure goes by no other list of the table
 --     figureAt-row       the figure goes by that row
 --     figureAt-below     below the first row the figure grows
 --     figureAt-on        on a row it is that row's
@@ -19,9 +18,9 @@ use mathlib.Core.Logic.{⊎-elim}
 use mathlib.Core.List.{List}
 use lib.ListN.{length, getD}
 use borrow.Author.Tests.{le-leb, lt-leb, eq-eqb, ne-eqb}
-use Rattle.model.specs.Numbers.{Rising}
-use Rattle.model.specs.Lookup.{Table, table, Spot, below, on, between, above, spotOf, rowsUpTo, spotAfter, growth, blend, figureOn, figureAt}
-use Rattle.model.proofs.NumbersLaws.{roundUp-above, roundUp-lt, rising-lt, rising-le}
+use Rattle.terms.specs.Numbers.{Rising}
+use Rattle.model.specs.Lookup.{Axis, rowsUpTo, spotAfter, growth, blend, figureOn, figureAt}
+use Rattle.terms.proofs.NumbersLaws.{roundUp-above, roundUp-lt, rising-lt, rising-le}
 
 module _ (ra rb xa xb r : ℕ) (apart : ra < rb) where
   pub blend-above : xa * (rb - r) + xb * (r - ra) ≤ (rb - ra) * blend ra rb xa xb r
@@ -68,42 +67,30 @@ rowsUpTo-last rates r (suc n) =
           })
     ]
 
--- a figure goes by the rates, the clock and the span, and not by the other lists of the table
-figureOn-same : (rates buffers fulls ys zs xs : List ℕ) (ts nu ticks r : ℕ) (at : Spot)
-    → figureOn (table rates ys zs ts nu ticks) xs r at ≡ figureOn (table rates buffers fulls ts nu ticks) xs r at
-figureOn-same rates buffers fulls ys zs xs ts nu ticks r below = refl
-figureOn-same rates buffers fulls ys zs xs ts nu ticks r (on i) = refl
-figureOn-same rates buffers fulls ys zs xs ts nu ticks r (between i) = refl
-figureOn-same rates buffers fulls ys zs xs ts nu ticks r above = refl
-
-pub figureAt-same : (rates buffers fulls ys zs xs : List ℕ) (ts nu ticks r : ℕ)
-    → figureAt (table rates ys zs ts nu ticks) xs r ≡ figureAt (table rates buffers fulls ts nu ticks) xs r
-figureAt-same rates buffers fulls ys zs xs ts nu ticks r = figureOn-same rates buffers fulls ys zs xs ts nu ticks r (spotOf rates r)
-
-module _ (w : Table) (xs : List ℕ) (r : ℕ) where
+module _ (a : Axis) (xs : List ℕ) (r : ℕ) where
   -- the figure, from the last row at or below r
-  pub figureAt-row : (n : ℕ) → rowsUpTo (w .rates) r (length (w .rates)) ≡ n → figureAt w xs r ≡ figureOn w xs r (spotAfter (w .rates) r n)
-  figureAt-row n e = ap (λ n. figureOn w xs r (spotAfter (w .rates) r n)) e
+  pub figureAt-row : (n : ℕ) → rowsUpTo (a .rates) r (length (a .rates)) ≡ n → figureAt a xs r ≡ figureOn a xs r (spotAfter (a .rates) r n)
+  figureAt-row n e = ap (λ n. figureOn a xs r (spotAfter (a .rates) r n)) e
 
-  pub figureAt-above : 0 < length (w .rates) → getD (w .rates) (length (w .rates) - 1) 0 < r → figureAt w xs r ≡ getD xs (length (w .rates) - 1) 0
+  pub figureAt-above : 0 < length (a .rates) → getD (a .rates) (length (a .rates) - 1) 0 < r → figureAt a xs r ≡ getD xs (length (a .rates) - 1) 0
   figureAt-above some lo =
-      let n = length (w .rates) - 1 in
-      let e : suc n ≡ length (w .rates) = omega arith in
-      figureAt-row (suc n) (rowsUpTo-row (w .rates) r (length (w .rates)) n (omega arith) (le-of-lt lo) (λ j a b. absurd (omega arith)))
+      let n = length (a .rates) - 1 in
+      let e : suc n ≡ length (a .rates) = omega arith in
+      figureAt-row (suc n) (rowsUpTo-row (a .rates) r (length (a .rates)) n (omega arith) (le-of-lt lo) (λ j g l. absurd (omega arith)))
       ∙ rw (ne-eqb _ _ (ne-of-lt lo), eq-eqb _ _ e)
 
-  pub figureAt-below : Rising (w .rates) (length (w .rates)) → 0 < length (w .rates) → r < getD (w .rates) 0 0 → figureAt w xs r ≡ getD xs 0 0 + growth w r
+  pub figureAt-below : Rising (a .rates) (length (a .rates)) → 0 < length (a .rates) → r < getD (a .rates) 0 0 → figureAt a xs r ≡ getD xs 0 0 + growth a r
   figureAt-below up some lo =
-      figureAt-row 0 (rowsUpTo-none (w .rates) r (length (w .rates)) (λ j h. lt-of-lt-of-le lo (rising-le (w .rates) up 0 j zero-le h)))
+      figureAt-row 0 (rowsUpTo-none (a .rates) r (length (a .rates)) (λ j h. lt-of-lt-of-le lo (rising-le (a .rates) up 0 j zero-le h)))
 
-  pub figureAt-on : Rising (w .rates) (length (w .rates)) → (i : ℕ) → i < length (w .rates) → getD (w .rates) i 0 ≡ r → figureAt w xs r ≡ getD xs i 0
+  pub figureAt-on : Rising (a .rates) (length (a .rates)) → (i : ℕ) → i < length (a .rates) → getD (a .rates) i 0 ≡ r → figureAt a xs r ≡ getD xs i 0
   figureAt-on up i h e =
-      figureAt-row (suc i) (rowsUpTo-row (w .rates) r (length (w .rates)) i h (omega arith) (λ j a b. omega (arith, rising-lt (w .rates) up i j a b)))
+      figureAt-row (suc i) (rowsUpTo-row (a .rates) r (length (a .rates)) i h (omega arith) (λ j g l. omega (arith, rising-lt (a .rates) up i j g l)))
       ∙ rw (eq-eqb _ _ e)
 
-  pub figureAt-between : Rising (w .rates) (length (w .rates)) → (i : ℕ) → suc i < length (w .rates) → getD (w .rates) i 0 < r → r < getD (w .rates) (suc i) 0
-      → figureAt w xs r ≡ blend (getD (w .rates) i 0) (getD (w .rates) (suc i) 0) (getD xs i 0) (getD xs (suc i) 0) r
+  pub figureAt-between : Rising (a .rates) (length (a .rates)) → (i : ℕ) → suc i < length (a .rates) → getD (a .rates) i 0 < r → r < getD (a .rates) (suc i) 0
+      → figureAt a xs r ≡ blend (getD (a .rates) i 0) (getD (a .rates) (suc i) 0) (getD xs i 0) (getD xs (suc i) 0) r
   figureAt-between up i h lo hi =
       figureAt-row (suc i)
-      (rowsUpTo-row (w .rates) r (length (w .rates)) i (le-of-lt h) (le-of-lt lo) (λ j a b. lt-of-lt-of-le hi (rising-le (w .rates) up (suc i) j a b)))
+      (rowsUpTo-row (a .rates) r (length (a .rates)) i (le-of-lt h) (le-of-lt lo) (λ j g l. lt-of-lt-of-le hi (rising-le (a .rates) up (suc i) j g l)))
       ∙ rw (ne-eqb _ _ (ne-of-lt lo), ne-eqb _ _ (ne-of-lt h))

@@ -8,7 +8,7 @@ use native.Mathlib.Omega.{arith}
 use mathlib.Core.Path.{_≡_}
 use Rattle.rules.specs.Limits.{spanMax}
 use Rattle.model.specs.Recording.{Recording, Recorded, Within, pictures, distance, span}
-use Rattle.model.proofs.NumbersLaws.{rising-le}
+use Rattle.terms.proofs.NumbersLaws.{rising-le}
 
 pub distance-split : {k : Recording} → Recorded k → {i j l : ℕ} → i ≤ j → j ≤ l → l < pictures k → distance k i l ≡ distance k i j + distance k j l
 distance-split {k} rec {i} {j} {l} h h′ g = omega (arith, rising-le (k .ticks) (rec .rising) i j h (omega arith), rising-le (k .ticks) (rec .rising) j l h′ g)

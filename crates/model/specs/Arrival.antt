@@ -9,11 +9,11 @@
 --     verdictOf       the verdict on a bucket
 --     starts, ends    the schedule: both times of every picture, in order
 -- The earliest start may lie below zero, where subtraction stops at 0. The start is the later of it and an end, which is at
--- least 0, so it is the same (arrivalStart-signed in the laws).
+-- least 0, so it is the same (arrivalStart-later in the laws).
 -- Laws: proofs/ArrivalLaws.antt. Assumes nothing.
 use Prim.Native.Nat.{ℕ, zero, suc, _+_, _-_, _*_, max}
 use mathlib.Core.List.{List}
-use Rattle.model.specs.Numbers.{listOf}
+use Rattle.terms.specs.Numbers.{listOf}
 use Rattle.model.specs.Recording.{Recording, pictures, size, distance}
 
 pub record Bucket : Type 0 where

@@ -68,7 +68,8 @@ Demand3Holds =
     × (leastFullness k r ≤ between (leastFullness k) ra rb r)
     × (verdictOf k (bucket r (between (leastBuffer k) ra rb r) (between (leastFullness k) ra rb r)) ≡ holds)
 
--- "each exceeds the least figure at r by less than 2 bits plus the duration in seconds .. times (r-a)(b-r)/(b-a)"
+-- "each exceeds the least figure at r by less than 2 bits plus the duration in seconds (first removal to last) times (r-a)(b-r)/(b-a), in
+-- exact arithmetic"
 abbrev pub Demand3Excess : Type 0
 Demand3Excess =
     (k : Recording) → Recorded k → (ra rb r : ℕ) → ra < rb → ra ≤ r → r ≤ rb

@@ -9,26 +9,25 @@
 --     rateListCheck    6   a rate out of range or not rising, at the first such rate
 --     RatesWithin          a list of rates that is not refused
 --     bucketCheck      7   B or F of one bucket out of range
---     roomCheck        8   a lent list has too little room from the given entry on
---     recordingFaults, verdictFaults, scheduleFaults, leastFaults, tableFaults, lookupFaults, secondsFaults
---                          what applies to each operation, in the order in which equal numbers come first
--- The faults of parameter bits (9, 10, 11): specs/Params.antt. Laws: proofs/FaultsLaws.antt. Assumes nothing.
-use Prim.Native.Nat.{ℕ, zero, suc, _+_, _-_, _≤_, _<_}
+--     recordingFaults, ratesFaults, secondsFaults, roomFaults
+--                          what applies to a recording, a list of rates, a bucket at its rate, two lent lists
+--     verdictFaults, scheduleFaults, leastFaults, tableFaults, lookupFaults
+--                          what applies to each operation, made of these, in the order in which equal numbers come first
+-- Room (8): terms/specs/Answers.antt. Parameter bits (9, 10): coding/specs/Params.antt. A tick's distance to the first is taken by a
+-- subtraction that stops at 0 only where the tick lies below the first: then it, or one before it, does not rise, which is a fault by itself.
+-- Laws: proofs/FaultsLaws.antt. Assumes nothing.
+use Prim.Native.Nat.{ℕ, zero, suc, _-_, _≤_, _<_}
 use mathlib.Core.Bool.{Bool, false, not, _||_}
 use mathlib.Core.List.{List, [], _∷_, _++_}
 use lib.Dec.{leb, ltb, eqb}
 use lib.ListN.{length, getD}
 use Rattle.rules.specs.Limits.{picturesMax, sizeMax, spanMax, tsMax, nuMax, rateMax, rowsMax, bucketMax}
 use Rattle.rules.specs.Refusals as refusal
-use Rattle.model.specs.Numbers.{Rising}
+use Rattle.terms.specs.Numbers.{outside, Rising}
 use Rattle.model.specs.Recording.{Recording, pictures}
 use Rattle.model.specs.Arrival.{Bucket}
 use Rattle.model.specs.Lookup.{Table}
-use Rattle.model.specs.Answers.{Judgement, refuseIf, firstFault}
-
--- x lies outside lo to hi
-abbrev pub outside : (lo hi x : ℕ) → Bool
-outside lo hi x = ltb x lo || ltb hi x
+use Rattle.terms.specs.Answers.{Judgement, refuseIf, firstFault, roomCheck}
 
 abbrev pub picturesCheck : Recording → Judgement
 picturesCheck k = refuseIf (outside 1 picturesMax (pictures k)) refusal.pictures 0
@@ -90,31 +89,32 @@ badBucket b f = outside 1 bucketMax b || outside 1 b f
 abbrev pub bucketCheck : Bucket → Judgement
 bucketCheck u = refuseIf (badBucket (u .buffer) (u .fullness)) refusal.bucket 0
 
--- "a lent output has too little room from the given entry .. on, a start past its end included"
-abbrev pub roomCheck : (l : List ℕ) (at n : ℕ) → Judgement
-roomCheck l at n = refuseIf (ltb (length l) (at + n)) refusal.room 0
-
 abbrev pub recordingFaults : Recording → List Judgement
 recordingFaults k = picturesCheck k ∷ lengthsCheck k ∷ clockCheck (k .ts) (k .nu) ∷ sizeCheck k ∷ tickCheck k ∷ []
 
+-- "Within 6, a count comes first, then the list"
+abbrev pub ratesFaults : (rates : List ℕ) → List Judgement
+ratesFaults rates = rateCountCheck rates ∷ rateListCheck rates ∷ []
+
+abbrev pub secondsFaults : Bucket → List Judgement
+secondsFaults u = rateCheck (u .rate) ∷ bucketCheck u ∷ []
+
+-- two lent lists, each with room for n entries from entry at on
+abbrev pub roomFaults : (l m : List ℕ) (at n : ℕ) → List Judgement
+roomFaults l m at n = roomCheck l at n ∷ roomCheck m at n ∷ []
+
 abbrev pub verdictFaults : Recording → Bucket → List Judgement
-verdictFaults k u = recordingFaults k ++ (rateCheck (u .rate) ∷ bucketCheck u ∷ [])
+verdictFaults k u = recordingFaults k ++ secondsFaults u
 
 abbrev pub scheduleFaults : Recording → Bucket → (at : ℕ) (starts ends : List ℕ) → List Judgement
-scheduleFaults k u at starts ends =
-    verdictFaults k u ++ (roomCheck starts at (pictures k) ∷ roomCheck ends at (pictures k) ∷ [])
+scheduleFaults k u at starts ends = verdictFaults k u ++ roomFaults starts ends at (pictures k)
 
 abbrev pub leastFaults : Recording → (rate : ℕ) → List Judgement
 leastFaults k rate = recordingFaults k ++ (rateCheck rate ∷ [])
 
 abbrev pub tableFaults : Recording → (rates : List ℕ) (at : ℕ) (buffers fulls : List ℕ) → List Judgement
 tableFaults k rates at buffers fulls =
-    recordingFaults k
-    ++ (rateCountCheck rates
-    ∷ rateListCheck rates
-    ∷ roomCheck buffers at (length rates)
-    ∷ roomCheck fulls at (length rates)
-    ∷ [])
+    recordingFaults k ++ (ratesFaults rates ++ roomFaults buffers fulls at (length rates))
 
 -- "a table's own lists, differ in length"
 abbrev pub tableLengthsCheck : Table → Judgement
@@ -125,8 +125,11 @@ tableLengthsCheck w =
     0
 
 -- "TS, NU or span outside its range"
+abbrev pub badSpan : (ts nu ticks : ℕ) → Bool
+badSpan ts nu ticks = badClock ts nu || ltb spanMax ticks
+
 abbrev pub tableClockCheck : Table → Judgement
-tableClockCheck w = refuseIf (badClock (w .ts) (w .nu) || ltb spanMax (w .ticks)) refusal.clock 0
+tableClockCheck w = refuseIf (badSpan (w .ts) (w .nu) (w .ticks)) refusal.clock 0
 
 abbrev pub badRow : (buffers fulls : List ℕ) → ℕ → Bool
 badRow buffers fulls i = badBucket (getD buffers i 0) (getD fulls i 0)
@@ -135,16 +138,7 @@ badRow buffers fulls i = badBucket (getD buffers i 0) (getD fulls i 0)
 abbrev pub rowsCheck : Table → Judgement
 rowsCheck w = firstFault refusal.bucket (badRow (w .buffers) (w .fulls)) (length (w .rates))
 
--- "Within 6, a count comes first, then the list, then a single rate."
+-- "then a single rate"
 abbrev pub lookupFaults : Table → (r : ℕ) → List Judgement
 lookupFaults w r =
-    tableLengthsCheck w
-    ∷ tableClockCheck w
-    ∷ rateCountCheck (w .rates)
-    ∷ rateListCheck (w .rates)
-    ∷ rateCheck r
-    ∷ rowsCheck w
-    ∷ []
-
-abbrev pub secondsFaults : Bucket → List Judgement
-secondsFaults u = rateCheck (u .rate) ∷ bucketCheck u ∷ []
+    tableLengthsCheck w ∷ tableClockCheck w ∷ (ratesFaults (w .rates) ++ (rateCheck r ∷ rowsCheck w ∷ []))

@@ -7,10 +7,10 @@
 --     leastFullness    least F
 --     leastBuffer      least B
 --     leastBucket      both, as a bucket
--- A need below zero counts as 0. The need of i = j is TS x size, above 0, so the largest is the same (largest-need-pos in the laws).
+-- A need below zero counts as 0. The need of i = j is TS x size, above 0, so the largest is the same (need-self in the laws).
 -- Laws: proofs/LeastLaws.antt. Assumes nothing.
 use Prim.Native.Nat.{ℕ, zero, suc, _+_, _-_, _*_}
-use Rattle.model.specs.Numbers.{roundUp, largest}
+use Rattle.terms.specs.Numbers.{roundUp, largest}
 use Rattle.model.specs.Recording.{Recording, pictures, size, distance}
 use Rattle.model.specs.Arrival.{Bucket, bucket}
 

@@ -12,7 +12,7 @@ use Rattle.model.specs.Recording.{Recording}
 use Rattle.model.specs.Arrival.{Bucket, Verdict, verdictOf, starts, ends}
 use Rattle.model.specs.Least.{leastBuffer, leastFullness, leastBucket}
 use Rattle.model.specs.Lookup.{Table, lookupOf}
-use Rattle.model.specs.Answers.{Answer, Judgement, lowest, answerWith, writtenIf}
+use Rattle.terms.specs.Answers.{Answer, Judgement, lowest, answerWith, writtenIf}
 use Rattle.model.specs.Faults.{recordingFaults, verdictFaults, scheduleFaults, leastFaults, tableFaults, lookupFaults}
 
 abbrev pub judgeOutcome : Recording → Judgement

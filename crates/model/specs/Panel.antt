@@ -15,7 +15,7 @@ use lib.IntN.{pos}
 use lib.Ieee.{Float, fin, inf, binary64, ofInt, div, lt, le}
 use Rattle.rules.specs.Refusals as refusal
 use Rattle.model.specs.Arrival.{Bucket}
-use Rattle.model.specs.Answers.{Answer, Judgement, refuseIf, lowest, answerWith}
+use Rattle.terms.specs.Answers.{Answer, Judgement, refuseIf, lowest, answerWith}
 use Rattle.model.specs.Faults.{secondsFaults}
 
 -- both numbers are held exactly: they are at most 2^53

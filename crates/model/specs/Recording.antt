@@ -11,7 +11,7 @@ use Prim.Native.Nat.{ℕ, suc, _-_, _≤_, _<_}
 use mathlib.Core.List.{List}
 use mathlib.Core.Path.{_≡_}
 use lib.ListN.{length, getD}
-use Rattle.model.specs.Numbers.{Rising}
+use Rattle.terms.specs.Numbers.{Rising}
 use Rattle.rules.specs.Limits.{picturesMax, sizeMax, spanMax, tsMax, nuMax}
 
 pub record Recording : Type 0 where

@@ -1,1 +1,1 @@
-// Function-free: the meanings of document 01 stand in specs/, what is true of them in proofs/.
+// No functions: recordings, buckets, least figures, tables, seconds, when each is refused, and their laws.

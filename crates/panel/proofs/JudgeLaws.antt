@@ -1,39 +1,42 @@
--- The refusal of a bucket at its rate, check by check, whatever is judged after them; and what passes is held exactly by a double.
--- Definitions: model/specs/Faults.antt, model/specs/Panel.antt.
---     rate-refused, bucket-refused    the outcome at each check
---     bucket-judged                   what is left once both have passed
---     figures-exact                   a rate and a bucket in range are at most 2^53
+-- A bucket at its rate and a limit, judged; and what passes is held exactly by a double. Definitions: model/specs/Faults.antt,
+-- model/specs/Panel.antt.
+--     panel-both        a bucket and a limit, judged each by itself and taken together
+--     seconds-exact     a rate and a bucket that pass are at most 2^53
+--     panel-exact       and so are those that pass with a limit
 -- Assumes nothing.
-use Prim.Native.Nat.{ℕ, _^_, _≤_}
+use Prim.Native.Nat.{_^_, _≤_}
 use native.Mathlib.Nat.{le-trans}
-use mathlib.Core.Path.{_≡_, _∙_}
-use mathlib.Core.Bool.{true, false}
-use mathlib.Core.List.{List, _++_}
+use mathlib.Core.Path.{_≡_, sym, ap₂, _∙_}
+use mathlib.Core.List.{[], _∷_}
 use lib.Dec.{lit≤}
+use lib.Ieee.{Float}
 use Rattle.rules.specs.Limits.{rateMax, bucketMax}
 use Rattle.rules.specs.Refusals as refusal
+use Rattle.terms.specs.Answers.{Judgement, passed, refuseIf, lower, lowest}
+use Rattle.terms.proofs.NumbersLaws.{or-false, outside-false}
+use Rattle.terms.proofs.AnswersLaws.{refuseIf-passed, lowest-more, lowest-each, lowest-passed}
 use Rattle.model.specs.Arrival.{Bucket}
-use Rattle.model.specs.Answers.{Judgement, refused, lowest, first}
-use Rattle.model.specs.Faults.{badRate, badBucket, secondsFaults}
-use Rattle.model.proofs.AnswersLaws.{Ascending, test-false, test-true, skip, here, lowest-first}
-use Rattle.model.proofs.FaultsLaws.{or-false, outside-false, secondsFaults-ascending}
+use Rattle.model.specs.Faults.{secondsFaults}
+use Rattle.model.specs.Panel.{badLimit, panelFaults}
 
-module _ (u : Bucket) (js : List Judgement) (up : Ascending refusal.bucket js) where
-  by-order : lowest (secondsFaults u ++ js) ≡ first (secondsFaults u ++ js)
-  by-order = lowest-first (secondsFaults-ascending u up)
+module _ (u : Bucket) where
+  -- each figure is held exactly by a double
+  abbrev Exact : Type 0
+  Exact = (u .rate ≤ 2 ^ 53) × (u .buffer ≤ 2 ^ 53) × (u .fullness ≤ 2 ^ 53)
 
-  pub rate-refused : badRate (u .rate) ≡ true → lowest (secondsFaults u ++ js) ≡ refused refusal.rate 0
-  rate-refused e = by-order ∙ here _ (test-true refusal.rate 0 e)
+  pub seconds-exact : lowest (secondsFaults u) ≡ passed → Exact
+  seconds-exact pass =
+      let each = lowest-passed (secondsFaults u) .0 pass in
+      let (inside, full) = or-false _ _ .0 (refuseIf-passed _ refusal.bucket 0 .0 (each .1 .0)) in
+      let most : u .buffer ≤ 2 ^ 53 = le-trans (outside-false 1 bucketMax (u .buffer) .0 inside .1) (lit≤ tt) in (
+        le-trans (outside-false 1 rateMax (u .rate) .0 (refuseIf-passed _ refusal.rate 0 .0 (each .0)) .1) (lit≤ tt),
+        most,
+        le-trans (outside-false 1 (u .buffer) (u .fullness) .0 full .1) most,
+      )
 
-  module _ (rate : badRate (u .rate) ≡ false) where
-    pub bucket-refused : badBucket (u .buffer) (u .fullness) ≡ true → lowest (secondsFaults u ++ js) ≡ refused refusal.bucket 0
-    bucket-refused e = by-order ∙ skip _ (test-false refusal.rate 0 rate) ∙ here _ (test-true refusal.bucket 0 e)
+  module _ (limit : Float) where
+    pub panel-both : {a b : Judgement} → a ≡ lowest (secondsFaults u) → b ≡ refuseIf (badLimit limit) refusal.limit 0 → lower a b ≡ lowest (panelFaults u limit)
+    panel-both ea eb = ap₂ lower ea eb ∙ sym (lowest-more (secondsFaults u) (refuseIf (badLimit limit) refusal.limit 0))
 
-    pub bucket-judged : badBucket (u .buffer) (u .fullness) ≡ false → lowest (secondsFaults u ++ js) ≡ first js
-    bucket-judged e = by-order ∙ skip _ (test-false refusal.rate 0 rate) ∙ skip js (test-false refusal.bucket 0 e)
-
-pub figures-exact : (rate b f : ℕ) → badRate rate ≡ false → badBucket b f ≡ false → (rate ≤ 2 ^ 53) × (b ≤ 2 ^ 53) × (f ≤ 2 ^ 53)
-figures-exact rate b f hr hb =
-    let (inside, full) = or-false _ _ .0 hb in
-    let most : b ≤ 2 ^ 53 = le-trans (outside-false 1 bucketMax b .0 inside .1) (lit≤ tt) in
-    (le-trans (outside-false 1 rateMax rate .0 hr .1) (lit≤ tt), most, le-trans (outside-false 1 b f .0 full .1) most)
+    pub panel-exact : lowest (panelFaults u limit) ≡ passed → Exact
+    panel-exact pass = seconds-exact (lowest-each (secondsFaults u) (refuseIf (badLimit limit) refusal.limit 0 ∷ []) pass .0)

@@ -2,7 +2,7 @@
 --     timedOf      the seconds of a bucket, or a refusal
 --     readingOf    a panel reading
 -- Assumes nothing.
-use Rattle.model.specs.Answers.{Answer, given, refused}
+use Rattle.terms.specs.Answers.{Answer, given, refused}
 use Rattle.model.specs.Panel as panel
 use Rattle.panel.specs.declared.Seconds.{Seconds}
 use Rattle.panel.specs.declared.Timed.{Timed}

@@ -1,7 +1,6 @@
 // A bucket at its rate as seconds, and the driver's panel. Serves document 01, "Looking up a rate in a table".
-use rules::BUCKET;
+use judgement::Judgement;
 use rules::LIMIT;
-use rules::RATE;
 ghost use mathlib.Core.Path.{_≡_};
 ghost use Prim.Native.Nat.{_≤_, _^_};
 ghost use Rattle.model.specs.Arrival.{bucket};
@@ -51,11 +50,9 @@ fn is_bad_limit(limit: f64) -> bool
 pub fn seconds_of(rate: u64, buffer: u64, fullness: u64) -> Timed
     ensures { λ r. ⌜ timedOf r ≡ secondsOutcome (bucket rate buffer fullness) ⌝ }
 {
-    if recording::is_bad_rate(rate) {
-        return Timed::Refused(RATE, 0);
-    }
-    if recording::is_bad_bucket(buffer, fullness) {
-        return Timed::Refused(BUCKET, 0);
+    let judged = judging::judge_bucket(rate, buffer, fullness);
+    if let Judgement::Refused(number, place) = judged {
+        return Timed::Refused(number, place);
     }
     Timed::Took(Seconds {
         wait: quotient(fullness, rate),
@@ -67,14 +64,12 @@ pub fn seconds_of(rate: u64, buffer: u64, fullness: u64) -> Timed
 pub fn panel(rate: u64, buffer: u64, fullness: u64, limit: f64) -> Reading
     ensures { λ r. ⌜ readingOf r ≡ panelOutcome (bucket rate buffer fullness) limit ⌝ }
 {
-    if recording::is_bad_rate(rate) {
-        return Reading::Refused(RATE, 0);
-    }
-    if recording::is_bad_bucket(buffer, fullness) {
-        return Reading::Refused(BUCKET, 0);
-    }
-    if is_bad_limit(limit) {
-        return Reading::Refused(LIMIT, 0);
+    let judged = judgement::lower(
+        judging::judge_bucket(rate, buffer, fullness),
+        judgement::refuse_if(is_bad_limit(limit), LIMIT, 0),
+    );
+    if let Judgement::Refused(number, place) = judged {
+        return Reading::Refused(number, place);
     }
     let wait = quotient(fullness, rate);
     if wait <= limit {

@@ -1,59 +1,61 @@
--- One law for every exported operation: its struct is its answer's, told by the variant that the operation answered.
---     tell          from what the operation promises of its answer, and which variant that is
---     tell-schedule the same for a schedule, with its two lists
---     tell-table    the same for a table, with its two lists
---     tell-read     the same for reading a record, with the record
---     tell-write    the same for writing one, with the bytes
---     tell-open     the same for opening a sheet, with its three lists
---     tell-print    the same for printing one, with the bytes
+-- What an operation answers with lists, told as a struct and these lists, from what it promises.
+--     tell-schedule, tell-table    with two lists
+--     tell-read                    with a record
+--     tell-write, tell-print       with bytes
+--     tell-open                    with three lists
 -- Assumes nothing.
 use Prim.Native.Nat.{ℕ}
-use mathlib.Core.Path.{_≡_, sym, ap, _∙_}
+use mathlib.Core.Path.{_≡_, ap, _∙_}
 use mathlib.Core.List.{List}
 use Rattle.model.specs.Outcomes as outcomes
-use Rattle.model.specs.Params.{ParamsRead, ParamsWritten}
-use Rattle.model.specs.Sheet as sheet
-use Rattle.hrd.specs.Outcome.{paramsOf, positionOf, paramsRead, paramsWritten}
-use Rattle.hrd.specs.declared.Found.{Found}
-use Rattle.hrd.specs.declared.Position.{Position}
-use Rattle.least.specs.Outcome.{tabledOf, tabled}
-use Rattle.least.specs.declared.Tabled.{Tabled}
+use Rattle.coding.specs.Params as coding
+use Rattle.layout.specs.Sheet as layout
 use Rattle.schedule.specs.Outcome.{answerOf, scheduled}
 use Rattle.schedule.specs.declared.Verdict.{Verdict}
-use Rattle.sheet.specs.Outcome.{openedOf, opened, printedOf, printed}
+use Rattle.least.specs.Outcome.{tabledOf, tabled}
+use Rattle.least.specs.declared.Tabled.{Tabled}
+use Rattle.params.specs.Outcome.{positionOf}
+use Rattle.params.specs.declared.Position.{Position}
+use Rattle.params_write.specs.Outcome.{paramsWritten}
+use Rattle.sheet.specs.Outcome.{openedOf, opened}
 use Rattle.sheet.specs.declared.Opened.{Opened}
-use Rattle.sheet.specs.declared.Printed.{Printed}
-use Rattle.planner.specs.declared.PlannerVerdict.{PlannerVerdict}
-use Rattle.planner.specs.Answers.{judgementAnswer, verdictAnswer, scheduleAnswer, tableAnswer, positionAnswer, writeAnswer, sheetAnswer, openAnswer, textAnswer, printAnswer}
-
-pub tell : {A B C : Type 0} (f : B → C) (g : A → B) {v w : A} {o : B} → g v ≡ o → v ≡ w → f (g w) ≡ f o
-tell f g promised told = ap (λ v. f (g v)) (sym told) ∙ ap f promised
+use Rattle.print.specs.Outcome.{printedOf, printed}
+use Rattle.print.specs.declared.Printed.{Printed}
+use Rattle.answers.specs.declared.recordings.PlannerJudgement.{PlannerJudgement}
+use Rattle.answers.specs.declared.recordings.PlannerVerdict.{PlannerVerdict}
+use Rattle.answers.specs.declared.records.PlannerRead.{PlannerRead}
+use Rattle.answers.specs.declared.records.PlannerPosition.{PlannerPosition}
+use Rattle.answers.specs.declared.sheets.PlannerSheet.{PlannerSheet}
+use Rattle.answers.specs.declared.sheets.PlannerText.{PlannerText}
+use Rattle.answers.specs.Recordings.{judgementAnswer, verdictAnswer, scheduleAnswer}
+use Rattle.answers.specs.Figures.{tableAnswer}
+use Rattle.answers.specs.Records.{positionAnswer, readAnswer, writeAnswer}
+use Rattle.answers.specs.Sheets.{sheetAnswer, openAnswer, textAnswer, printAnswer}
 
 pub tell-schedule : (v : Verdict) {r : PlannerVerdict} {starts ends : List ℕ} {t : outcomes.Scheduled} → scheduled v starts ends ≡ t
     → r ≡ verdictAnswer (answerOf v) → scheduleAnswer r starts ends t
 tell-schedule v promised told = (told ∙ ap (λ t. verdictAnswer (t .answer)) promised, ap (λ t. t .starts) promised, ap (λ t. t .ends) promised)
 
-pub tell-table : {v w : Tabled} {buffers fulls : List ℕ} {t : outcomes.Tabled} → tabled v buffers fulls ≡ t → v ≡ w
-    → tableAnswer (judgementAnswer (tabledOf w)) buffers fulls t
-tell-table promised told = (tell judgementAnswer tabledOf (ap (λ t. t .answer) promised) told, ap (λ t. t .buffers) promised, ap (λ t. t .fulls) promised)
+pub tell-table : (v : Tabled) {r : PlannerJudgement} {buffers fulls : List ℕ} {t : outcomes.Tabled} → tabled v buffers fulls ≡ t
+    → r ≡ judgementAnswer (tabledOf v) → tableAnswer r buffers fulls t
+tell-table v promised told = (told ∙ ap (λ t. judgementAnswer (t .answer)) promised, ap (λ t. t .buffers) promised, ap (λ t. t .fulls) promised)
 
-pub tell-read : (v : Found) {w : Position} {t : ParamsRead} → paramsRead v ≡ t → v .position ≡ w
-    → (positionAnswer (positionOf w) ≡ positionAnswer (t .answer)) × (paramsOf (v .params) ≡ t .params)
-tell-read v promised told = (tell positionAnswer positionOf (ap (λ t. t .answer) promised) told, ap (λ t. t .params) promised)
+pub tell-read : {r : PlannerRead} {s t : coding.ParamsRead} → s ≡ t → readAnswer r s → readAnswer r t
+tell-read promised told = (told .0 ∙ ap (λ t. positionAnswer (t .answer)) promised, told .1 ∙ ap (λ t. t .params) promised)
 
-pub tell-write : {v w : Position} {bytes : List ℕ} {t : ParamsWritten} → paramsWritten v bytes ≡ t → v ≡ w
-    → writeAnswer (positionAnswer (positionOf w)) bytes t
-tell-write promised told = (tell positionAnswer positionOf (ap (λ t. t .answer) promised) told, ap (λ t. t .bytes) promised)
+pub tell-write : (v : Position) {r : PlannerPosition} {bytes : List ℕ} {t : coding.ParamsWritten} → paramsWritten v bytes ≡ t
+    → r ≡ positionAnswer (positionOf v) → writeAnswer r bytes t
+tell-write v promised told = (told ∙ ap (λ t. positionAnswer (t .answer)) promised, ap (λ t. t .bytes) promised)
 
-pub tell-open : {v w : Opened} {sizes ticks rates : List ℕ} {t : sheet.Opened} → opened v sizes ticks rates ≡ t → v ≡ w
-    → openAnswer (sheetAnswer (openedOf w)) sizes ticks rates t
-tell-open promised told = (
-  tell sheetAnswer openedOf (ap (λ t. t .answer) promised) told,
+pub tell-open : (v : Opened) {r : PlannerSheet} {sizes ticks rates : List ℕ} {t : layout.Opened} → opened v sizes ticks rates ≡ t
+    → r ≡ sheetAnswer (openedOf v) → openAnswer r sizes ticks rates t
+tell-open v promised told = (
+  told ∙ ap (λ t. sheetAnswer (t .answer)) promised,
   ap (λ t. t .sizes) promised,
   ap (λ t. t .ticks) promised,
   ap (λ t. t .rates) promised,
 )
 
-pub tell-print : {v w : Printed} {text : List ℕ} {t : sheet.Printed} → printed v text ≡ t → v ≡ w
-    → printAnswer (textAnswer (printedOf w)) text t
-tell-print promised told = (tell textAnswer printedOf (ap (λ t. t .answer) promised) told, ap (λ t. t .text) promised)
+pub tell-print : (v : Printed) {r : PlannerText} {text : List ℕ} {t : layout.Printed} → printed v text ≡ t
+    → r ≡ textAnswer (printedOf v) → printAnswer r text t
+tell-print v promised told = (told ∙ ap (λ t. textAnswer (t .answer)) promised, ap (λ t. t .text) promised)

@@ -1,2 +1,1 @@
-mod WatchLaws
 mod OutcomeLaws

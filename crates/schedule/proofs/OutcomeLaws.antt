@@ -1,46 +1,28 @@
--- The answers of this crate, check by check, in the order in which the code makes them. Definitions: model/specs/Faults.antt, model/specs/Outcomes.antt,
+-- The answers of this crate, from what is judged and what is seen. Definitions: model/specs/Faults.antt, model/specs/Outcomes.antt,
 -- specs/Outcome.antt.
---     judge-recording, judge-rate, judge-bucket, judge-passed                          the judgement of a recording, a rate and a bucket
---     verdict-refused, verdict-given                                                   the verdict
---     schedule-refused, schedule-starts-short, schedule-ends-short, schedule-given    the verdict and both lists
+--     judge-both                            a recording and a bucket, judged each by itself and taken together
+--     verdict-refused, verdict-given        the verdict
+--     schedule-both                         these and the room of two lists, taken together
+--     schedule-refused, schedule-given      the verdict and both lists
+--     Roomy, schedule-roomy                 what a schedule that is not refused has
 -- Assumes nothing.
-use Prim.Native.Nat.{ℕ, _+_}
-use mathlib.Core.Path.{_≡_, ap, _∙_}
-use mathlib.Core.Bool.{true, false}
-use mathlib.Core.List.{List, [], _∷_}
-use lib.Dec.{ltb}
+use Prim.Native.Nat.{ℕ, _+_, _≤_}
+use mathlib.Core.Path.{_≡_, sym, ap, ap₂, _∙_}
+use mathlib.Core.List.{List}
 use lib.ListN.{length}
-use Rattle.rules.specs.Refusals as refusal
-use Rattle.model.specs.Numbers.{written}
+use Rattle.terms.specs.Numbers.{filled}
+use Rattle.terms.specs.Answers.{Answer, Judgement, given, refused, passed, lower, lowest, answerWith, writtenIf}
+use Rattle.terms.proofs.NumbersLaws.{lent, back, lent-room, written-back}
+use Rattle.terms.proofs.FilledLaws.{filled-written}
+use Rattle.terms.proofs.AnswersLaws.{lowest-both, lowest-each, lowest-passed, roomCheck-passed}
 use Rattle.model.specs.Recording.{Recording, pictures}
-use Rattle.model.specs.Arrival.{Bucket, Verdict, verdictOf, starts, ends}
-use Rattle.model.specs.Answers.{Answer, Judgement, given, refused, passed, orElse, lowest, first, answerWith, writtenIf}
-use Rattle.model.specs.Faults.{badRate, badBucket, bucketCheck, roomCheck, verdictFaults, scheduleFaults, secondsFaults}
+use Rattle.model.specs.Arrival.{Bucket, Verdict, verdictOf, arrivalStart, arrivalEnd, starts, ends}
+use Rattle.model.specs.Faults.{recordingFaults, secondsFaults, roomFaults, verdictFaults, scheduleFaults}
 use Rattle.model.specs.Outcomes.{judgeOutcome, verdictOutcome, Scheduled, scheduleOutcome}
-use Rattle.model.proofs.AnswersLaws.{test-false, test-true, skip, here, none, test}
-use Rattle.model.proofs.FaultsLaws.{verdictFaults-first, verdictFaults-after}
 
 module _ (k : Recording) (u : Bucket) where
-  judged : {j : Judgement} → judgeOutcome k ≡ j → lowest (verdictFaults k u) ≡ orElse j (first (secondsFaults u))
-  judged e = verdictFaults-first k u ∙ ap (λ j. orElse j (first (secondsFaults u))) e
-
-  pub judge-recording : {n i : ℕ} → judgeOutcome k ≡ refused n i → lowest (verdictFaults k u) ≡ refused n i
-  judge-recording e = judged e
-
-  module _ (pass : judgeOutcome k ≡ passed) where
-    pub judge-rate : badRate (u .rate) ≡ true → lowest (verdictFaults k u) ≡ refused refusal.rate 0
-    judge-rate e = judged pass ∙ here _ (test-true refusal.rate 0 e)
-
-    module _ (rate : badRate (u .rate) ≡ false) where
-      rated : lowest (verdictFaults k u) ≡ first (bucketCheck u ∷ [])
-      rated = judged pass ∙ skip _ (test-false refusal.rate 0 rate)
-
-      pub judge-bucket : badBucket (u .buffer) (u .fullness) ≡ true → lowest (verdictFaults k u) ≡ refused refusal.bucket 0
-      judge-bucket e = rated ∙ here _ (test-true refusal.bucket 0 e)
-
-      pub judge-passed : badBucket (u .buffer) (u .fullness) ≡ false → lowest (verdictFaults k u) ≡ passed
-      unfolding first
-      judge-passed e = rated ∙ skip [] (test-false refusal.bucket 0 e)
+  pub judge-both : {a b : Judgement} → a ≡ judgeOutcome k → b ≡ lowest (secondsFaults u) → lower a b ≡ lowest (verdictFaults k u)
+  judge-both ea eb = ap₂ lower ea eb ∙ sym (lowest-both (recordingFaults k) (secondsFaults u))
 
   pub verdict-refused : {n i : ℕ} → lowest (verdictFaults k u) ≡ refused n i → verdictOutcome k u ≡ refused n i
   verdict-refused e = ap (λ j. answerWith j (verdictOf k u)) e
@@ -55,33 +37,39 @@ module _ (k : Recording) (u : Bucket) where
     answered j =
         record { answer = answerWith j (verdictOf k u); starts = writtenIf j l at (starts k u); ends = writtenIf j m at (ends k u) }
 
-    abbrev rooms : List Judgement
-    rooms = roomCheck l at (pictures k) ∷ roomCheck m at (pictures k) ∷ []
+    pub schedule-both : {a b : Judgement} → a ≡ lowest (verdictFaults k u) → b ≡ lowest (roomFaults l m at (pictures k))
+        → lower a b ≡ lowest (scheduleFaults k u at l m)
+    schedule-both ea eb = ap₂ lower ea eb ∙ sym (lowest-both (verdictFaults k u) (roomFaults l m at (pictures k)))
 
-    scheduled : {j : Judgement} → lowest (verdictFaults k u) ≡ j → lowest (scheduleFaults k u at l m) ≡ orElse j (first rooms)
-    scheduled e =
-        verdictFaults-after k u rooms (test refusal.room _ 0 tt (test refusal.room _ 0 tt none))
-        ∙ ap (λ j. orElse j (first rooms)) e
+    pub schedule-refused : {n i : ℕ} → lowest (scheduleFaults k u at l m) ≡ refused n i
+        → scheduleOutcome k u at l m ≡ record { answer = refused n i; starts = l; ends = m }
+    schedule-refused e = ap answered e
 
-    -- nothing is written
-    abbrev unwritten : (number place : ℕ) → Scheduled
-    unwritten number place = record { answer = refused number place; starts = l; ends = m }
+    pub record Roomy : Type 0 where
+      pub judged : lowest (verdictFaults k u) ≡ passed
+      pub starts : at + pictures k ≤ length l
+      pub ends : at + pictures k ≤ length m
 
-    pub schedule-refused : {n i : ℕ} → lowest (verdictFaults k u) ≡ refused n i → scheduleOutcome k u at l m ≡ unwritten n i
-    schedule-refused e = ap answered (scheduled e)
+    module _ (pass : lowest (scheduleFaults k u at l m) ≡ passed) where
+      pub schedule-roomy : Roomy
+      schedule-roomy =
+          let (judged, rooms) = lowest-each (verdictFaults k u) (roomFaults l m at (pictures k)) pass in
+          let each = lowest-passed (roomFaults l m at (pictures k)) .0 rooms in
+          record {
+            judged = judged;
+            starts = roomCheck-passed l at (pictures k) .0 (each .0);
+            ends = roomCheck-passed m at (pictures k) .0 (each .1 .0);
+          }
 
-    module _ (pass : lowest (verdictFaults k u) ≡ passed) where
-      pub schedule-starts-short : ltb (length l) (at + pictures k) ≡ true → scheduleOutcome k u at l m ≡ unwritten refusal.room 0
-      schedule-starts-short e = ap answered (scheduled pass ∙ here _ (test-true refusal.room 0 e))
-
-      module _ (some : ltb (length l) (at + pictures k) ≡ false) where
-        roomy : lowest (scheduleFaults k u at l m) ≡ first (roomCheck m at (pictures k) ∷ [])
-        roomy = scheduled pass ∙ skip _ (test-false refusal.room 0 some)
-
-        pub schedule-ends-short : ltb (length m) (at + pictures k) ≡ true → scheduleOutcome k u at l m ≡ unwritten refusal.room 0
-        schedule-ends-short e = ap answered (roomy ∙ here _ (test-true refusal.room 0 e))
-
-        pub schedule-given : ltb (length m) (at + pictures k) ≡ false
-            → scheduleOutcome k u at l m ≡ record { answer = given (verdictOf k u); starts = written l at (starts k u); ends = written m at (ends k u) }
-        unfolding first
-        schedule-given e = ap answered (roomy ∙ skip [] (test-false refusal.room 0 e))
+      pub schedule-given : {a : Answer Verdict} {v : Verdict} {from to : List ℕ} → a ≡ given v → v ≡ verdictOf k u
+          → from ≡ filled (lent l at) (arrivalStart k u) (pictures k) → to ≡ filled (lent m at) (arrivalEnd k u) (pictures k)
+          → scheduleOutcome k u at l m ≡ record { answer = a; starts = back l at from; ends = back m at to }
+      schedule-given {from = from} {to = to} answers sees filled-starts filled-ends =
+          let r = schedule-roomy in
+          ap answered pass
+          ∙ rw (
+            answers,
+            sees,
+            written-back l at (starts k u) from (filled-starts ∙ filled-written _ _ _ (lent-room l at _ (r .starts))),
+            written-back m at (ends k u) to (filled-ends ∙ filled-written _ _ _ (lent-room m at _ (r .ends))),
+          )

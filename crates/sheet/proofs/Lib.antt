@@ -1,2 +1,1 @@
-mod OpenLaws
-pub mod PrintLaws
+pub mod OpenLaws

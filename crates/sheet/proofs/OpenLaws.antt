@@ -1,46 +1,37 @@
--- The outcome of opening a sheet, check by check, in the order in which the code makes them. Definitions: model/specs/Sheet.antt.
---     words-front, words-fit    a list to which words were written has these at its front, and room for them
+-- The outcome of opening a sheet, from what is read and judged. Definitions: layout/specs/Sheet.antt, specs/Outcome.antt.
 --     misplaced-sizes, misplaced-ticks, misplaced-rates, misplaced-length    offsets and length, from the words that were read
---     header-given     a header that passes gives its counts and its clock
---     head-fits        and these say how long the file is
+--     header-given              a header that passes gives its counts and its clock
+--     head-pictures, head-rates, head-fits    which are the sheet's, and say how long the file is
 --     recording-read, rates-read    a recording and rates that were read are those of the sheet
---     lists-recording, lists-rate, lists-passed    the refusal of the lists
---     open-header, open-lists, open-sizes, open-ticks, open-rates    a refusal at each check, with all three lists as they were
---     open-written     the sheet, once every check has passed
+--     lists-both                so the two, judged each by itself and taken together, are the sheet's
+--     open-header, open-lists, open-rooms    what is refused: by the header, by the lists, and else by the room of three lists
+--     Roomy, open-roomy         what a sheet that is not refused has
+--     open-refused, open-given  the answer with the three lists: as they were, or with the sheet's words at their front
 -- Assumes nothing.
-use Prim.Native.Nat.{ℕ, _+_, _*_, _≤_, _<_}
-use native.Mathlib.Omega.{arith}
-use mathlib.Core.Path.{_≡_, sym, ap, _∙_}
+use Prim.Native.Nat.{ℕ, _+_, _*_, _≤_}
+use mathlib.Core.Path.{_≡_, sym, ap, ap₂, _∙_}
 use mathlib.Core.Bool.{true, not}
-use mathlib.Core.List.{List, [], _∷_}
-use lib.Dec.{ltb, eqb}
+use mathlib.Core.List.{List, [], _∷_, _++_}
+use lib.Dec.{eqb}
 use lib.ListN.{length, take}
 use borrow.Author.Tests.{eq-eqb}
 use Rattle.rules.specs.Limits.{headerBytes, sheetPicturesMax, rowsMax}
 use Rattle.rules.specs.Refusals as refusal
-use Rattle.model.specs.Numbers.{written}
-use Rattle.model.specs.Recording.{Recording, recording}
-use Rattle.model.specs.Answers.{Judgement, given, refused, passed, orElse, lowest, first, answerWith, FirstBad}
-use Rattle.model.specs.Faults.{badRateAt, rateListCheck, roomCheck}
+use Rattle.terms.specs.Numbers.{written}
+use Rattle.terms.specs.Words.{wordsAt}
+use Rattle.terms.specs.Answers.{Judgement, given, refused, passed, orElse, lower, lowest, first, answerWith, roomCheck}
+use Rattle.terms.proofs.AnswersLaws.{orElse-passed, first-passed, first-append, answer-refuses, none, test, lowest-first, lowest-more, roomCheck-passed}
+use Rattle.model.specs.Recording.{recording}
+use Rattle.model.specs.Faults.{rateListCheck, recordingFaults, roomFaults}
 use Rattle.model.specs.Outcomes.{judgeOutcome}
-use Rattle.model.specs.Sheet as sheet
-use Rattle.model.specs.Sheet.{wordsAt, pictureCount, rateCount, sizesOffset, ticksOffset, ratesOffset, clockScale, clockUnits, sheetRates, sheetRecording, misplaced, headerFaults, listFaults, openFaults, openOutcome}
-use Rattle.model.proofs.NumbersLaws.{listOf-length, written-front, written-fits}
-use Rattle.model.proofs.AnswersLaws.{first-append, test-true, firstFault-found, firstFault-none, answer-refuses}
-use Rattle.model.proofs.FaultsLaws.{roomCheck-passed}
-use Rattle.model.proofs.SheetLaws.{misplaced-true, misplaced-false, headerFaults-laid, listFaults-first}
+use Rattle.layout.specs.Sheet as sheet
+use Rattle.layout.specs.Sheet.{pictureCount, rateCount, sizesOffset, ticksOffset, ratesOffset, clockScale, clockUnits, sheetRates, sheetRecording, misplaced, headerFaults, listFaults, sheetFaults, openFaults, openOutcome}
+use Rattle.layout.proofs.SheetLaws.{misplaced-true, misplaced-false, headerFaults-laid}
+use Rattle.words.proofs.FrontLaws.{words-front}
 use Rattle.sheet.specs.declared.Head.{Head}
 use Rattle.sheet.specs.declared.Opened.{Opened}
 use Rattle.sheet.specs.declared.Opened.the-variants.{Sheet, Refused}
 use Rattle.sheet.specs.Outcome.{headOf, openedOf, opened}
-
--- a list to which words were written
-module _ (bytes : List ℕ) (from n : ℕ) (l₀ l : List ℕ) (e : l ≡ written l₀ 0 (wordsAt bytes from n)) where
-  pub words-front : take n l ≡ wordsAt bytes from n
-  words-front = written-front l₀ l (wordsAt bytes from n) n e (listOf-length _ n)
-
-  pub words-fit : (n ≤ length l) × (n ≡ length (take n l))
-  words-fit = written-fits l₀ l (wordsAt bytes from n) n e (listOf-length _ n)
 
 -- the words of a header, as they were read
 module _ (bytes : List ℕ) (n m : ℕ) (pictures : n ≡ pictureCount bytes) (rates : m ≡ rateCount bytes) where
@@ -72,15 +63,15 @@ module _ (bytes : List ℕ) (n m : ℕ) (pictures : n ≡ pictureCount bytes) (r
 
 -- a header that was judged, and what it says
 module _ (bytes : List ℕ) (head : Head) (said : headOf head ≡ sheet.headOf bytes) where
-  pictures : head .pictures ≡ pictureCount bytes
-  pictures = ap (λ h. h .pictures) said
+  pub head-pictures : head .pictures ≡ pictureCount bytes
+  head-pictures = ap (λ h. h .pictures) said
 
-  rates : head .rates ≡ rateCount bytes
-  rates = ap (λ h. h .rates) said
+  pub head-rates : head .rates ≡ rateCount bytes
+  head-rates = ap (λ h. h .rates) said
 
   pub head-fits : first (headerFaults bytes) ≡ passed
       → (length bytes ≡ headerBytes + 8 * head .pictures + 4 * head .rates) × (head .pictures ≤ sheetPicturesMax) × (head .rates ≤ rowsMax)
-  head-fits ok = let l = headerFaults-laid bytes .0 ok in rw (pictures, rates) (l .whole, l .few, l .rows)
+  head-fits ok = let l = headerFaults-laid bytes .0 ok in rw (head-pictures, head-rates) (l .whole, l .few, l .rows)
 
   pub recording-read : (l₀ l m₀ m : List ℕ) → l ≡ written l₀ 0 (wordsAt bytes headerBytes (head .pictures))
       → m ≡ written m₀ 0 (wordsAt bytes (headerBytes + 4 * head .pictures) (head .pictures))
@@ -88,96 +79,72 @@ module _ (bytes : List ℕ) (head : Head) (said : headOf head ≡ sheet.headOf b
   recording-read l₀ l m₀ m el em =
       let ts : head .ts ≡ clockScale bytes = ap (λ h. h .ts) said in
       let nu : head .nu ≡ clockUnits bytes = ap (λ h. h .nu) said in
-      rw (words-front bytes _ _ l₀ l el, words-front bytes _ _ m₀ m em, pictures, ts, nu)
+      rw (words-front bytes _ _ l₀ l el, words-front bytes _ _ m₀ m em, head-pictures, ts, nu)
 
   pub rates-read : (r₀ r : List ℕ) → r ≡ written r₀ 0 (wordsAt bytes (headerBytes + 8 * head .pictures) (head .rates)) → take (head .rates) r ≡ sheetRates bytes
-  rates-read r₀ r e = rw (words-front bytes _ _ r₀ r e, pictures, rates)
+  rates-read r₀ r e = rw (words-front bytes _ _ r₀ r e, head-pictures, head-rates)
 
-module _ (bytes : List ℕ) (k : Recording) (read : k ≡ sheetRecording bytes) where
-  pub lists-recording : (n i : ℕ) → judgeOutcome k ≡ refused n i → lowest (listFaults bytes) ≡ refused n i
-  lists-recording n i e = listFaults-first bytes ∙ rw (sym (ap judgeOutcome read) ∙ e)
+  pub lists-both : (l₀ l m₀ m r₀ r : List ℕ) → l ≡ written l₀ 0 (wordsAt bytes headerBytes (head .pictures))
+      → m ≡ written m₀ 0 (wordsAt bytes (headerBytes + 4 * head .pictures) (head .pictures))
+      → r ≡ written r₀ 0 (wordsAt bytes (headerBytes + 8 * head .pictures) (head .rates))
+      → {a b : Judgement} → a ≡ judgeOutcome (recording (take (head .pictures) l) (take (head .pictures) m) (head .ts) (head .nu))
+      → b ≡ rateListCheck (take (head .rates) r) → lower a b ≡ lowest (listFaults bytes)
+  lists-both l₀ l m₀ m r₀ r el em er ea eb =
+      ap₂ lower (ea ∙ ap judgeOutcome (recording-read l₀ l m₀ m el em)) (eb ∙ ap rateListCheck (rates-read r₀ r er))
+      ∙ sym (lowest-more (recordingFaults (sheetRecording bytes)) (rateListCheck (sheetRates bytes)))
 
-  -- rates that were read, and the first of them that is at fault
-  module _ (recorded : judgeOutcome k ≡ passed) (rs : List ℕ) (listed : rs ≡ sheetRates bytes) (n : ℕ) (count : n ≡ length rs) (i : ℕ) (at : FirstBad (badRateAt rs) (length rs) i) where
-    pub lists-rate : i < n → lowest (listFaults bytes) ≡ refused refusal.rate i
-    unfolding first
-    lists-rate h = listFaults-first bytes ∙ rw (sym (ap judgeOutcome read) ∙ recorded, sym (ap rateListCheck listed) ∙ firstFault-found refusal.rate (badRateAt rs) (length rs) i at (omega arith))
-
-    pub lists-passed : n ≤ i → lowest (listFaults bytes) ≡ passed
-    unfolding first
-    lists-passed h = listFaults-first bytes ∙ rw (sym (ap judgeOutcome read) ∙ recorded, sym (ap rateListCheck listed) ∙ firstFault-none refusal.rate (badRateAt rs) (length rs) i at (omega arith))
+-- three lists with room for what a header says
+pub record Roomy (head : Head) (l m r : List ℕ) : Type 0 where
+  pub sizes : 0 + head .pictures ≤ length l
+  pub ticks : 0 + head .pictures ≤ length m
+  pub rates : 0 + head .rates ≤ length r
 
 module _ (bytes l m r : List ℕ) where
   -- the checks of the room in the three lists
   abbrev pub rooms : List Judgement
-  rooms = roomCheck l 0 (pictureCount bytes) ∷ roomCheck m 0 (pictureCount bytes) ∷ roomCheck r 0 (rateCount bytes) ∷ []
+  rooms = roomFaults l m 0 (pictureCount bytes) ++ (roomCheck r 0 (rateCount bytes) ∷ [])
+
+  rooms-first : lower (lowest (roomFaults l m 0 (pictureCount bytes))) (roomCheck r 0 (rateCount bytes)) ≡ first rooms
+  rooms-first =
+      sym (lowest-more (roomFaults l m 0 (pictureCount bytes)) (roomCheck r 0 (rateCount bytes)))
+      ∙ lowest-first {n = refusal.room} (test refusal.room _ 0 tt (test refusal.room _ 0 tt (test refusal.room _ 0 tt none)))
 
   after : first (openFaults bytes l m r) ≡ orElse (first (headerFaults bytes)) (first (lowest (listFaults bytes) ∷ rooms))
   after = first-append (headerFaults bytes) (lowest (listFaults bytes) ∷ rooms)
 
-  refuses : (n i : ℕ) → first (openFaults bytes l m r) ≡ refused n i → opened (Refused n i) l m r ≡ openOutcome bytes l m r
-  refuses n i e = rw e
+  pub open-refused : {n i : ℕ} → first (openFaults bytes l m r) ≡ refused n i → opened (Refused n i) l m r ≡ openOutcome bytes l m r
+  open-refused e = rw e
 
   pub open-header : (o : Opened) (n i : ℕ) → o ≡ Refused n i → openedOf o ≡ answerWith (first (headerFaults bytes)) (sheet.headOf bytes)
       → opened o l m r ≡ openOutcome bytes l m r
-  open-header o n i e f = ap (λ o. opened o l m r) e ∙ refuses n i (after ∙ rw (answer-refuses (first (headerFaults bytes)) (sheet.headOf bytes) n i (sym f ∙ ap openedOf e)))
+  open-header o n i e f =
+      ap (λ o. opened o l m r) e ∙ open-refused (after ∙ rw (answer-refuses (first (headerFaults bytes)) (sheet.headOf bytes) n i (sym f ∙ ap openedOf e)))
 
   module _ (laid : first (headerFaults bytes) ≡ passed) where
-    pub open-lists : (n i : ℕ) → lowest (listFaults bytes) ≡ refused n i → opened (Refused n i) l m r ≡ openOutcome bytes l m r
+    pub open-lists : {n i : ℕ} → lowest (listFaults bytes) ≡ refused n i → first (openFaults bytes l m r) ≡ refused n i
     unfolding first
-    open-lists n i e = refuses n i (after ∙ rw (laid, e))
+    open-lists e = after ∙ rw (laid, e)
 
-    module _ (listed : lowest (listFaults bytes) ≡ passed) (head : Head) (said : headOf head ≡ sheet.headOf bytes) where
-      judged : first (openFaults bytes l m r) ≡ first rooms
-      unfolding first
-      judged = after ∙ rw (laid, listed)
+    pub open-rooms : lowest (listFaults bytes) ≡ passed → (head : Head) → headOf head ≡ sheet.headOf bytes → {a b : Judgement}
+        → a ≡ lowest (roomFaults l m 0 (head .pictures)) → b ≡ roomCheck r 0 (head .rates) → lower a b ≡ first (openFaults bytes l m r)
+    unfolding first
+    open-rooms listed head said ea eb =
+        ap₂ lower ea eb ∙ rw (head-pictures bytes head said, head-rates bytes head said) (rooms-first ∙ sym (after ∙ rw (laid, listed)))
 
-      pub open-sizes : ltb (length l) (0 + head .pictures) ≡ true → opened (Refused refusal.room 0) l m r ≡ openOutcome bytes l m r
-      unfolding first
-      open-sizes e = refuses refusal.room 0 (judged ∙ rw (test-true refusal.room 0 (rw (pictures bytes head said) at e)))
+  module _ (pass : first (openFaults bytes l m r) ≡ passed) (head : Head) (said : headOf head ≡ sheet.headOf bytes) where
+    pub open-roomy : Roomy head l m r
+    open-roomy =
+        let roomy = orElse-passed (first (sheetFaults bytes)) (first rooms) .0 (sym (first-append (sheetFaults bytes) rooms) ∙ pass) .1 in
+        let each = first-passed rooms .0 roomy in
+        record {
+          sizes = rw (head-pictures bytes head said) (roomCheck-passed l 0 _ .0 (each .0));
+          ticks = rw (head-pictures bytes head said) (roomCheck-passed m 0 _ .0 (each .1 .0));
+          rates = rw (head-rates bytes head said) (roomCheck-passed r 0 _ .0 (each .1 .1 .0));
+        }
 
-      module _ (sizesRoom : 0 + head .pictures ≤ length l) where
-        sizes-passed : roomCheck l 0 (pictureCount bytes) ≡ passed
-        sizes-passed = roomCheck-passed l 0 _ (rw (pictures bytes head said) at sizesRoom)
-
-        pub open-ticks : ltb (length m) (0 + head .pictures) ≡ true → opened (Refused refusal.room 0) l m r ≡ openOutcome bytes l m r
-        unfolding first
-        open-ticks e =
-            refuses refusal.room 0
-            (judged
-            ∙ rw (sizes-passed, test-true refusal.room 0 (rw (pictures bytes head said) at e)))
-
-        module _ (ticksRoom : 0 + head .pictures ≤ length m) where
-          ticks-passed : roomCheck m 0 (pictureCount bytes) ≡ passed
-          ticks-passed = roomCheck-passed m 0 _ (rw (pictures bytes head said) at ticksRoom)
-
-          pub open-rates : ltb (length r) (0 + head .rates) ≡ true → opened (Refused refusal.room 0) l m r ≡ openOutcome bytes l m r
-          unfolding first
-          open-rates e =
-              refuses refusal.room 0
-              (judged
-              ∙ rw (
-                sizes-passed,
-                ticks-passed,
-                test-true refusal.room 0 (rw (rates bytes head said) at e),
-              ))
-
-          pub open-written : 0 + head .rates ≤ length r → (sizes ticks rs : List ℕ)
-              → sizes ≡ written l 0 (wordsAt bytes headerBytes (head .pictures))
-              → ticks ≡ written m 0 (wordsAt bytes (headerBytes + 4 * head .pictures) (head .pictures))
-              → rs ≡ written r 0 (wordsAt bytes (headerBytes + 8 * head .pictures) (head .rates))
-              → opened (Sheet head) sizes ticks rs ≡ openOutcome bytes l m r
-          unfolding first
-          open-written ratesRoom sizes ticks rs es et er =
-              rw (
-                judged,
-                sizes-passed,
-                ticks-passed,
-                roomCheck-passed r 0 _ (rw (rates bytes head said) at ratesRoom),
-                es,
-                et,
-                er,
-                said,
-                pictures bytes head said,
-                rates bytes head said,
-              )
+    pub open-given : {sizes ticks rs : List ℕ}
+        → sizes ≡ written l 0 (wordsAt bytes headerBytes (head .pictures))
+        → ticks ≡ written m 0 (wordsAt bytes (headerBytes + 4 * head .pictures) (head .pictures))
+        → rs ≡ written r 0 (wordsAt bytes (headerBytes + 8 * head .pictures) (head .rates))
+        → opened (Sheet head) sizes ticks rs ≡ openOutcome bytes l m r
+    open-given es et er = rw (pass, es, et, er, said, head-pictures bytes head said, head-rates bytes head said)

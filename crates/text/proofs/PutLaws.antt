@@ -16,7 +16,7 @@ use native.Mathlib.Omega.{arith}
 use mathlib.Core.Path.{_≡_, sym, ap, _∙_}
 use mathlib.Core.List.{List, [], _∷_, _++_}
 use lib.ListN.{length, set, length-append, take-append-drop}
-use Rattle.model.proofs.NumbersLaws.{written-length, written-append, written-more}
+use Rattle.terms.proofs.NumbersLaws.{written-length, written-append, written-more}
 use Rattle.text.specs.Put.{Room, Put}
 
 pub put-none : (l : List ℕ) (at m : ℕ) → m ≡ at → Put l at [] l m

@@ -6,7 +6,7 @@ use Prim.Native.Nat.{ℕ, _+_, _≤_}
 use mathlib.Core.Path.{_≡_}
 use mathlib.Core.List.{List}
 use lib.ListN.{length}
-use Rattle.model.specs.Numbers.{written}
+use Rattle.terms.specs.Numbers.{written}
 
 abbrev pub Room : (l : List ℕ) (at : ℕ) (xs : List ℕ) → Type 0
 Room l at xs = at + length xs ≤ length l

@@ -2,7 +2,7 @@
 // entry behind what it put. Serves document 01, "The sheet and the printed table".
 ghost use Prim.Native.Nat.{_≤_};
 ghost use lib.ListN.{length};
-ghost use Rattle.model.specs.Text.{decimal, refusalLine, rowLine, tableText};
+ghost use Rattle.layout.specs.Text.{decimal, refusalLine, rowLine, tableText};
 ghost use Rattle.text.specs.Put.{Room, Put};
 
 // Puts a list of bytes.

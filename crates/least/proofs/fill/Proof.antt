@@ -3,25 +3,25 @@
 -- Assumes nothing.
 use Prim.Native.Nat.{ℕ, _-_, _≤_, zero-le}
 use native.Mathlib.Omega.{arith}
-use mathlib.Core.Path.{_≡_, sym, ap, _∙_}
+use mathlib.Core.Path.{_≡_, refl, sym, ap, _∙_}
 use mathlib.Core.List.{List, map}
 use borrow.Author.Needs.{needs}
 use denote.Ref.{now}
 use lib.ListN.{length, getD}
-use Rattle.model.specs.Numbers.{written}
+use Rattle.terms.specs.Numbers.{written}
 use Rattle.model.specs.Recording.{recording}
 use Rattle.model.specs.Least.{leastBuffer, leastFullness}
-use Rattle.model.proofs.NumbersLaws.{map-listOf}
-use Rattle.model.proofs.FilledLaws.{Filled, filled-none, filled-more, filled-all}
+use Rattle.terms.proofs.NumbersLaws.{map-listOf}
+use Rattle.terms.proofs.FilledLaws.{Filled, filled-none, filled-more, filled-all}
 use Rattle.least.proofs.fill.Statement.{statement}
 use Rattle.least.proofs.fill.Tie as tie
 
 -- a list with f of each of the first i rates at its front, and at last of all of them
 abbrev Rated : (f : ℕ → ℕ) (rates l₀ l : List ℕ) (i : ℕ) → Type 0
-Rated f rates l₀ l i = Filled (λ j. f (getD rates j 0)) (length rates) l₀ l i
+Rated f rates l₀ l i = Filled (λ j. f (getD rates j 0)) l₀ l i
 
-rated-all : (f : ℕ → ℕ) (rates l₀ l : List ℕ) (i : ℕ) → Rated f rates l₀ l i → i ≤ length rates → length rates ≤ i → l ≡ written l₀ 0 (map f rates)
-rated-all f rates l₀ l i p h g = filled-all p h g ∙ ap (written l₀ 0) (sym (map-listOf f rates))
+rated-all : (f : ℕ → ℕ) (rates l₀ l : List ℕ) (i : ℕ) → Rated f rates l₀ l i → i ≤ length rates → length rates ≤ i → length rates ≤ length l₀ → l ≡ written l₀ 0 (map f rates)
+rated-all f rates l₀ l i p h g room = filled-all p h g room ∙ ap (written l₀ 0) (sym (map-listOf f rates))
 
 abbrev Inv-loop : tie.InvT-loop
 Inv-loop sizes ticks ts nu rates buffers₀ fulls₀ i₀ buffers fulls i =
@@ -31,9 +31,7 @@ abbrev μ-loop : tie.MeasureT-loop
 μ-loop sizes ticks ts nu rates buffers₀ fulls₀ i₀ buffers fulls i = length rates - i
 
 loop-holds : tie.Need-loop-holds Inv-loop μ-loop
-loop-holds c =
-    let pre = c .before .before .before .before .before .pre in
-    (zero-le, filled-none _ _ _ (pre .2), filled-none _ _ _ (pre .3))
+loop-holds c = (zero-le, filled-none _ _, filled-none _ _)
 
 mul-least-at : tie.Need-mul-least-at Inv-loop μ-loop
 mul-least-at c = search needs
@@ -50,13 +48,13 @@ mul-buffers : tie.Need-mul-buffers Inv-loop μ-loop
 mul-buffers c = search needs
 
 slice-write-buffers : tie.Need-slice-write-buffers Inv-loop μ-loop
-slice-write-buffers c = let p = c .before .before .before .loop .inv .1 in omega (arith, p .same, p .room)
+slice-write-buffers c = let p = c .before .before .before .loop .inv .1 in omega (arith, p .same, c .before .before .before .before .before .before .before .before .before .pre .2)
 
 mul-fulls : tie.Need-mul-fulls Inv-loop μ-loop
 mul-fulls c = search needs
 
 slice-write-fulls : tie.Need-slice-write-fulls Inv-loop μ-loop
-slice-write-fulls c = let p = c .before .before .before .loop .inv .2 in omega (arith, p .same, p .room)
+slice-write-fulls c = let p = c .before .before .before .loop .inv .2 in omega (arith, p .same, c .before .before .before .before .before .before .before .before .before .pre .3)
 
 add-i : tie.Need-add-i Inv-loop μ-loop
 add-i c = search needs
@@ -67,8 +65,7 @@ loop-less c = search needs
 loop-again : tie.Need-loop-again Inv-loop μ-loop
 loop-again c =
     let (among, buffers, fulls) = c .before .before .before .loop .inv in
-    let more = c .before .before .loop-test .taken in
-    (omega arith, filled-more buffers more _ (c .least-at .ensures .0), filled-more fulls more _ (c .least-at .ensures .1))
+    (omega arith, filled-more buffers refl (c .least-at .ensures .0), filled-more fulls refl (c .least-at .ensures .1))
 
 same-length : tie.Need-same-length Inv-loop μ-loop
 same-length c = c .before .loop .inv .1 .same
@@ -81,7 +78,7 @@ returns c =
     let a = c .before .before .before .before .before .before .before .args in
     let k = recording (now (a .sizes)) (now (a .ticks)) (a .ts) (a .nu) in
     let (among, buffers, fulls) = c .before .loop .inv in
-    (rated-all (leastBuffer k) (now (a .rates)) _ _ _ buffers among (c .loop-test .left), rated-all (leastFullness k) (now (a .rates)) _ _ _ fulls among (c .loop-test .left))
+    (rated-all (leastBuffer k) (now (a .rates)) _ _ _ buffers among (c .loop-test .left) (c .before .before .before .before .before .before .before .pre .2), rated-all (leastFullness k) (now (a .rates)) _ _ _ fulls among (c .loop-test .left) (c .before .before .before .before .before .before .before .pre .3))
 
 pub fill-spec : {M : Type 1} → statement M
 fill-spec =

@@ -3,10 +3,10 @@
 use Prim.Native.Nat.{ℕ, _+_, _-_, _*_, _≤_, _<_}
 use native.Mathlib.Omega.{arith}
 use mathlib.Core.Path.{_≡_}
-use borrow.Author.Needs.{needs}
 use Rattle.rules.specs.Limits.{rateMax, bucketMax}
 use Rattle.rules.specs.Width.{Word}
 use Rattle.rules.proofs.Fits.{blend-fits}
+use borrow.Author.Needs.{needs}
 use Rattle.lookup.proofs.blend.Statement.{statement}
 use Rattle.lookup.proofs.blend.Tie as tie
 
@@ -19,35 +19,26 @@ fits ra rb xa xb r apart most some lo hi hx hy =
 whole : (c : tie.Start) → Word (c .args .xa * (c .args .rb - c .args .r) + c .args .xb * (c .args .r - c .args .ra) + (c .args .rb - c .args .ra - 1))
 whole c = let (apart, most, some, lo, hi, hx, hy) = c .pre in fits _ _ _ _ _ apart most some lo hi hx hy
 
-sub-result : tie.Need-sub-result
-sub-result c = search needs
+sub-round-up : tie.Need-sub-round-up
+sub-round-up c = search needs
 
-mul-result : tie.Need-mul-result
-mul-result c = record { fits = omega (arith, whole c) }
+mul-round-up : tie.Need-mul-round-up
+mul-round-up c = record { fits = omega (arith, whole c) }
 
-sub-result-2 : tie.Need-sub-result-2
-sub-result-2 c = search needs
+sub-round-up-2 : tie.Need-sub-round-up-2
+sub-round-up-2 c = search needs
 
-mul-result-2 : tie.Need-mul-result-2
-mul-result-2 c = record { fits = omega (arith, whole c) }
+mul-round-up-2 : tie.Need-mul-round-up-2
+mul-round-up-2 c = record { fits = omega (arith, whole c) }
 
-add-result : tie.Need-add-result
-add-result c = record { fits = omega (arith, whole c) }
+add-round-up : tie.Need-add-round-up
+add-round-up c = record { fits = omega (arith, whole c) }
 
-sub-result-3 : tie.Need-sub-result-3
-sub-result-3 c = search needs
+sub-round-up-3 : tie.Need-sub-round-up-3
+sub-round-up-3 c = search needs
 
-sub-result-4 : tie.Need-sub-result-4
-sub-result-4 c = search needs
-
-add-result-2 : tie.Need-add-result-2
-add-result-2 c = record { fits = whole c }
-
-sub-result-5 : tie.Need-sub-result-5
-sub-result-5 c = search needs
-
-div-result : tie.Need-div-result
-div-result c = search needs
+round-up-requires : tie.Need-round-up-requires
+round-up-requires c κs = (omega (arith, c .pre .0), whole c)
 
 returns : tie.Need-returns
 returns c = search needs
@@ -55,4 +46,12 @@ returns c = search needs
 pub blend-spec : {M : Type 1} → statement M
 blend-spec =
     tie.close
-    (tie.spec sub-result mul-result sub-result-2 mul-result-2 add-result sub-result-3 sub-result-4 add-result-2 sub-result-5 div-result returns)
+    (tie.spec
+    sub-round-up
+    mul-round-up
+    sub-round-up-2
+    mul-round-up-2
+    add-round-up
+    sub-round-up-3
+    round-up-requires
+    returns)

@@ -13,26 +13,26 @@ use borrow.Author.Tests.{eq-eqb, ne-eqb}
 use Rattle.rules.specs.Limits.{rateMax, bucketMax}
 use Rattle.rules.specs.Width.{Word}
 use Rattle.rules.proofs.Fits.{tickUnits-le}
-use Rattle.model.specs.Lookup.{Table, table, rowsUpTo, spotAfter, growth, blend, figureOn, figureAt}
+use Rattle.model.specs.Lookup.{Axis, axis, rowsUpTo, spotAfter, growth, blend, figureOn, figureAt}
 use Rattle.model.proofs.LookupLaws.{LastRow, rowsUpTo-last, figureAt-row}
-use Rattle.lookup.specs.Judged.{FigureReady}
+use Rattle.lookup.specs.Ready.{FigureReady}
 use Rattle.lookup.proofs.figure.Statement.{statement}
 use Rattle.lookup.proofs.figure.Tie as tie
 
-module _ (w : Table) (xs : List ℕ) (r row : ℕ) (ready : FigureReady w xs) (e : row ≡ rowsUpTo (w .rates) r (length (w .rates))) (some : 1 ≤ r) where
-  last : LastRow (w .rates) r (length (w .rates)) row
-  last = subst (LastRow (w .rates) r (length (w .rates))) (sym e) (rowsUpTo-last (w .rates) r (length (w .rates)))
+module _ (a : Axis) (xs : List ℕ) (r row : ℕ) (ready : FigureReady a xs) (e : row ≡ rowsUpTo (a .rates) r (length (a .rates))) (some : 1 ≤ r) where
+  last : LastRow (a .rates) r (length (a .rates)) row
+  last = subst (LastRow (a .rates) r (length (a .rates))) (sym e) (rowsUpTo-last (a .rates) r (length (a .rates)))
 
-  below-rate : row ≡ 0 → r < getD (w .rates) 0 0
+  below-rate : row ≡ 0 → r < getD (a .rates) 0 0
   below-rate z = last .high 0 (omega arith) (ready .some)
 
-  below-growth : row ≡ 0 → getD (w .rates) 0 0 - r < rateMax
+  below-growth : row ≡ 0 → getD (a .rates) 0 0 - r < rateMax
   below-growth z = omega (arith, below-rate z, ready .rated .small 0 (ready .some))
 
-  below-first : row ≡ 0 → (y : ℕ) → y ≡ growth w r → getD xs 0 0 + y ≡ figureAt w xs r
-  below-first z y g = ap (λ y. getD xs 0 0 + y) g ∙ sym (figureAt-row w xs r 0 (sym e ∙ z))
+  below-first : row ≡ 0 → (y : ℕ) → y ≡ growth a r → getD xs 0 0 + y ≡ figureAt a xs r
+  below-first z y g = ap (λ y. getD xs 0 0 + y) g ∙ sym (figureAt-row a xs r 0 (sym e ∙ z))
 
-  below-fits : row ≡ 0 → (y : ℕ) → y ≤ (getD (w .rates) 0 0 - r) * w .nu * w .ticks → Word (getD xs 0 0 + y)
+  below-fits : row ≡ 0 → (y : ℕ) → y ≤ (getD (a .rates) 0 0 - r) * a .nu * a .ticks → Word (getD xs 0 0 + y)
   below-fits z y g =
       omega (arith, g, ready .small 0 (omega (arith, ready .some, ready .paired)), tickUnits-le (le-of-lt (below-growth z)) (ready .units) (ready .near))
 
@@ -40,38 +40,38 @@ module _ (w : Table) (xs : List ℕ) (r row : ℕ) (ready : FigureReady w xs) (e
     row-before : suc (row - 1) ≡ row
     row-before = omega (arith, up)
 
-    by-row : figureAt w xs r ≡ figureOn w xs r (spotAfter (w .rates) r (suc (row - 1)))
-    by-row = figureAt-row w xs r (suc (row - 1)) (sym e ∙ sym row-before)
+    by-row : figureAt a xs r ≡ figureOn a xs r (spotAfter (a .rates) r (suc (row - 1)))
+    by-row = figureAt-row a xs r (suc (row - 1)) (sym e ∙ sym row-before)
 
-    on-row : getD (w .rates) (row - 1) 0 ≡ r → figureAt w xs r ≡ getD xs (row - 1) 0
+    on-row : getD (a .rates) (row - 1) 0 ≡ r → figureAt a xs r ≡ getD xs (row - 1) 0
     on-row q = by-row ∙ rw (eq-eqb _ _ q)
 
-    above-last : (getD (w .rates) (row - 1) 0 ≡ r → ⊥) → row ≡ length (w .rates) → figureAt w xs r ≡ getD xs (row - 1) 0
+    above-last : (getD (a .rates) (row - 1) 0 ≡ r → ⊥) → row ≡ length (a .rates) → figureAt a xs r ≡ getD xs (row - 1) 0
     above-last ne q = by-row ∙ rw (ne-eqb _ _ ne, eq-eqb _ _ (row-before ∙ q), ← q)
 
-    module _ (ne : getD (w .rates) (row - 1) 0 ≡ r → ⊥) (more : row ≡ length (w .rates) → ⊥) where
-      between-rows : figureAt w xs r ≡ blend (getD (w .rates) (row - 1) 0) (getD (w .rates) row 0) (getD xs (row - 1) 0) (getD xs row 0) r
+    module _ (ne : getD (a .rates) (row - 1) 0 ≡ r → ⊥) (more : row ≡ length (a .rates) → ⊥) where
+      between-rows : figureAt a xs r ≡ blend (getD (a .rates) (row - 1) 0) (getD (a .rates) row 0) (getD xs (row - 1) 0) (getD xs row 0) r
       between-rows = by-row ∙ rw (ne-eqb _ _ ne, ne-eqb _ _ (λ q. more (sym row-before ∙ q)), row-before)
 
-      rows : (row - 1 < length (w .rates)) × (row < length (w .rates))
+      rows : (row - 1 < length (a .rates)) × (row < length (a .rates))
       rows = omega (arith, last .within, more, row-before)
 
-      bounds : (getD (w .rates) (row - 1) 0 < getD (w .rates) row 0)
-          × (getD (w .rates) row 0 ≤ rateMax)
-          × (1 ≤ getD (w .rates) (row - 1) 0)
-          × (getD (w .rates) (row - 1) 0 ≤ r)
-          × (r ≤ getD (w .rates) row 0)
+      bounds : (getD (a .rates) (row - 1) 0 < getD (a .rates) row 0)
+          × (getD (a .rates) row 0 ≤ rateMax)
+          × (1 ≤ getD (a .rates) (row - 1) 0)
+          × (getD (a .rates) (row - 1) 0 ≤ r)
+          × (r ≤ getD (a .rates) row 0)
           × (getD xs (row - 1) 0 ≤ bucketMax)
           × (getD xs row 0 ≤ bucketMax)
       bounds =
-          let (a, b) = rows in
+          let (i, j) = rows in
           let low = last .low (row - 1) (sym row-before) in
-          let high = last .high row (le-refl row) b in
-          (omega arith, ready .rated .small row b, ready .rated .some (row - 1) a, low, le-of-lt high, ready .small (row - 1) (rw (ready .paired) a), ready .small row (rw (ready .paired) b))
+          let high = last .high row (le-refl row) j in
+          (omega arith, ready .rated .small row j, ready .rated .some (row - 1) i, low, le-of-lt high, ready .small (row - 1) (rw (ready .paired) i), ready .small row (rw (ready .paired) j))
 
--- the table with one list of figures in both places
-abbrev w : tie.Start → Table
-w c = table (now (c .args .rates)) (now (c .args .xs)) (now (c .args .xs)) (c .args .ts) (c .args .nu) (c .args .span)
+-- what the figures are looked up by
+abbrev w : tie.Start → Axis
+w c = axis (now (c .args .rates)) (c .args .ts) (c .args .nu) (c .args .span)
 
 shared-slice-read-result : tie.Need-shared-slice-read-result
 shared-slice-read-result c = search needs

@@ -4,9 +4,9 @@ use borrow.Author.Needs.{needs}
 use Prim.Native.Nat.{_-_, _≤_}
 use mathlib.Core.Path.{sym, _∙_}
 use lib.ListN.{length}
-use Rattle.model.specs.Answers.{NoneBad}
+use Rattle.terms.specs.Answers.{NoneBad}
 use Rattle.model.specs.Faults.{badRow}
-use Rattle.model.proofs.AnswersLaws.{noneBad-zero, noneBad-more, firstBad-here, firstBad-none}
+use Rattle.terms.proofs.AnswersLaws.{noneBad-zero, noneBad-more, firstBad-here, firstBad-none}
 use Rattle.lookup.proofs.first_bad_row.Statement.{statement}
 use Rattle.lookup.proofs.first_bad_row.Tie as tie
 

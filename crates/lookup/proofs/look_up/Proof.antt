@@ -5,11 +5,10 @@ use mathlib.Core.Path.{_≡_, sym, ap, ap₂, _∙_}
 use denote.Ref.{now}
 use Rattle.model.specs.Arrival.{bucket}
 use Rattle.model.specs.Lookup.{Table, table}
-use Rattle.model.specs.Answers.{given, passed, lowest}
+use Rattle.terms.specs.Answers.{given, passed, lowest}
 use Rattle.model.specs.Faults.{lookupFaults}
-use Rattle.model.proofs.AnswersLaws.{answer-given, answer-refused}
-use Rattle.model.proofs.LookupLaws.{figureAt-same}
-use Rattle.recording.specs.Outcome.{judgementOf}
+use Rattle.terms.proofs.AnswersLaws.{answer-given, answer-refused}
+use Rattle.judgement.specs.Outcome.{judgementOf}
 use Rattle.lookup.proofs.JudgeLaws.{lookup-rate-some, buffers-ready, fulls-ready}
 use Rattle.lookup.proofs.look_up.Statement.{statement}
 use Rattle.lookup.proofs.look_up.Tie as tie
@@ -44,7 +43,7 @@ figure-requires-2 c κs =
 
 returns-2 : tie.Need-returns-2
 returns-2 c =
-    ap₂ (λ b f. given (bucket (c .before .before .before .before .before .before .before .before .before .args .rate) b f)) (c .before .figure .ensures ∙ figureAt-same _ _ _ _ _ _ _ _ _ _) (c .figure2 .ensures ∙ figureAt-same _ _ _ _ _ _ _ _ _ _) ∙ sym (answer-given _ (passes (c .before .before .before)))
+    ap₂ (λ b f. given (bucket (c .before .before .before .before .before .before .before .before .before .args .rate) b f)) (c .before .figure .ensures) (c .figure2 .ensures) ∙ sym (answer-given _ (passes (c .before .before .before)))
 
 pub look-up-spec : {M : Type 1} → statement M
 look-up-spec =

@@ -1,62 +1,53 @@
--- `panel::seconds_of` meets its contract: a refusal is that of the check it stands at, and each quotient is the definition's.
+-- `panel::seconds_of` meets its contract: the refusal of the bucket, or else its two quotients.
 -- Assumes nothing.
-use borrow.Author.Needs.{needs}
-use Prim.Native.Nat.{_^_, _≤_}
-use mathlib.Core.Path.{_≡_, refl, sym, ap₂, _∙_}
-use mathlib.Core.Bool.{false}
-use mathlib.Core.List.{[]}
+use mathlib.Core.Path.{_≡_, sym, ap, ap₂, _∙_}
+use Rattle.terms.specs.Answers.{given, passed, lowest}
+use Rattle.terms.proofs.AnswersLaws.{answer-given, answer-refused}
 use Rattle.model.specs.Arrival.{Bucket, bucket}
-use Rattle.model.specs.Answers.{given, first}
-use Rattle.model.specs.Faults.{badRate, badBucket}
-use Rattle.model.proofs.AnswersLaws.{none, answer-given, answer-refused}
-use Rattle.panel.proofs.JudgeLaws.{rate-refused, bucket-refused, bucket-judged, figures-exact}
+use Rattle.model.specs.Faults.{secondsFaults}
+use Rattle.judgement.specs.Outcome.{judgementOf}
+use Rattle.panel.proofs.JudgeLaws.{seconds-exact}
+use borrow.Author.Needs.{needs}
 use Rattle.panel.proofs.seconds_of.Statement.{statement}
 use Rattle.panel.proofs.seconds_of.Tie as tie
 
 abbrev u : tie.Start → Bucket
-u c = bucket (c .args .rate) (c .args .buffer) (c .args .fullness)
+u s = bucket (s .args .rate) (s .args .buffer) (s .args .fullness)
 
--- what the tests passed so far say of it
-in-range : (c : tie.Else1) → badRate (c .before .before .args .rate) ≡ false
-in-range c = sym (c .before .is-bad-rate .ensures) ∙ c .if1 .left
+passes : (c : tie.After-enum-told) → lowest (secondsFaults (u (c .before .before .before))) ≡ passed
+passes c = sym (c .before .before .judge-bucket .ensures) ∙ ap judgementOf (c .enum-told .given .1)
 
-a-bucket : (c : tie.Else2) → badBucket (c .before .before .before .before .args .buffer) (c .before .before .before .before .args .fullness) ≡ false
-a-bucket c = sym (c .before .is-bad-bucket .ensures) ∙ c .if2 .left
+judge-bucket-requires : tie.Need-judge-bucket-requires
+judge-bucket-requires c κs = search needs
 
-exact : (c : tie.Else2) → (c .before .before .before .before .args .rate ≤ 2 ^ 53) × (c .before .before .before .before .args .buffer ≤ 2 ^ 53) × (c .before .before .before .before .args .fullness ≤ 2 ^ 53)
-exact c = figures-exact _ (c .before .before .before .before .args .buffer) _ (in-range (c .before .before)) (a-bucket c)
-
-is-bad-rate-requires : tie.Need-is-bad-rate-requires
-is-bad-rate-requires c κs = search needs
+enum-known-judged : tie.Need-enum-known-judged
+enum-known-judged c = search needs
 
 returns : tie.Need-returns
-returns c = sym (answer-refused _ (rate-refused (u (c .before .before)) [] none (sym (c .before .is-bad-rate .ensures) ∙ c .if1 .taken)))
+returns c = sym (answer-refused _ (sym (c .before .before .before .judge-bucket .ensures) ∙ ap judgementOf (c .before .judged .given .1)))
 
-is-bad-bucket-requires : tie.Need-is-bad-bucket-requires
-is-bad-bucket-requires c κs = search needs
-
-returns-2 : tie.Need-returns-2
-returns-2 c = sym (answer-refused _ (bucket-refused (u (c .before .before .before .before)) [] none (in-range (c .before .before)) (sym (c .before .is-bad-bucket .ensures) ∙ c .if2 .taken)))
+enum-told : tie.Need-enum-told
+enum-told c = search needs
 
 quotient-requires : tie.Need-quotient-requires
-quotient-requires c κs = let (r, b, f) = exact c in (f, r)
+quotient-requires c κs = let (r, b, f) = seconds-exact (u (c .before .before .before)) (passes c) in (f, r)
 
 quotient-requires-2 : tie.Need-quotient-requires-2
-quotient-requires-2 c κs = let (r, b, f) = exact (c .before) in (b, r)
+quotient-requires-2 c κs = let (r, b, f) = seconds-exact (u (c .before .before .before .before)) (passes (c .before)) in (b, r)
 
-returns-3 : tie.Need-returns-3
-returns-3 c =
+returns-2 : tie.Need-returns-2
+returns-2 c =
     ap₂ (λ x y. given (record { wait = x; fill = y })) (c .before .quotient .ensures) (c .quotient2 .ensures)
-    ∙ sym (answer-given _ (bucket-judged (u (c .before .before .before .before .before .before)) [] none (in-range (c .before .before .before .before)) (a-bucket (c .before .before)) ∙ unfold first in refl))
+    ∙ sym (answer-given _ (passes (c .before .before)))
 
 pub seconds-of-spec : {M : Type 1} → statement M
 seconds-of-spec =
     tie.close
     (tie.spec
-    is-bad-rate-requires
+    judge-bucket-requires
+    enum-known-judged
     returns
-    is-bad-bucket-requires
-    returns-2
+    enum-told
     quotient-requires
     quotient-requires-2
-    returns-3)
+    returns-2)

@@ -6,7 +6,7 @@ use mathlib.Core.List.{List}
 use borrow.Author.Needs.{needs}
 use lib.ListN.{length, take, replicate}
 use Rattle.rules.specs.Limits.{textMax}
-use Rattle.sheet.proofs.PrintLaws.{text-printed}
+use Rattle.print.proofs.PrintLaws.{text-printed}
 use Rattle.plan.proofs.main.Statement.{statement}
 use Rattle.plan.proofs.main.Tie as tie
 

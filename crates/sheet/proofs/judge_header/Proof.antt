@@ -7,11 +7,11 @@ use mathlib.Core.List.{List}
 use borrow.Author.Needs.{needs}
 use denote.Ref.{now}
 use Rattle.rules.specs.Limits.{sheetPicturesMax, rowsMax}
-use Rattle.model.specs.Faults.{outside}
-use Rattle.model.specs.Sheet.{pictureCount, rateCount, headOf}
-use Rattle.model.proofs.AnswersLaws.{answer-refused}
-use Rattle.model.proofs.FaultsLaws.{outside-false}
-use Rattle.model.proofs.SheetLaws.{header-short, header-pictures, header-rates, header-misplaced, header-passed}
+use Rattle.terms.specs.Numbers.{outside}
+use Rattle.layout.specs.Sheet.{pictureCount, rateCount, headOf}
+use Rattle.terms.proofs.AnswersLaws.{answer-refused}
+use Rattle.terms.proofs.NumbersLaws.{outside-false}
+use Rattle.layout.proofs.SheetLaws.{header-short, header-pictures, header-rates, header-misplaced, header-passed}
 use Rattle.sheet.proofs.OpenLaws.{header-given}
 use Rattle.sheet.proofs.judge_header.Statement.{statement}
 use Rattle.sheet.proofs.judge_header.Tie as tie

@@ -1,35 +1,23 @@
--- `sheet::open_sheet` meets its contract: what is refused first is refused with the three lists as they were, and what passes every
--- test has its words at the front of each.
+-- `sheet::open_sheet` meets its contract: a refusal, with the three lists as they were, or else the sheet's words at the front of each.
 -- Assumes nothing.
 use Prim.Native.Nat.{ℕ, _+_, _*_, _≤_}
 use native.Mathlib.Omega.{arith}
 use mathlib.Core.Path.{_≡_, sym, ap, _∙_}
 use mathlib.Core.List.{List}
 use borrow.Author.Needs.{needs}
-use borrow.Author.Tests.{ltb-false}
 use denote.Ref.{now}
 use lib.ListN.{length}
 use Rattle.rules.specs.Limits.{headerBytes, sheetPicturesMax, rowsMax}
-use Rattle.model.specs.Answers.{passed, lowest, first}
-use Rattle.model.specs.Sheet as sheet
-use Rattle.model.specs.Sheet.{headerFaults, listFaults}
-use Rattle.model.proofs.AnswersLaws.{answer-passed}
-use Rattle.recording.specs.Outcome.{judgementOf}
+use Rattle.terms.specs.Answers.{Judgement, passed, lowest, first}
+use Rattle.terms.proofs.AnswersLaws.{answer-passed}
+use Rattle.layout.specs.Sheet as sheet
+use Rattle.layout.specs.Sheet.{headerFaults, listFaults, openFaults}
+use Rattle.judgement.specs.Outcome.{judgementOf}
 use Rattle.sheet.specs.declared.Head.{Head}
 use Rattle.sheet.specs.Outcome.{headOf, openedOf}
-use Rattle.sheet.proofs.OpenLaws.{head-fits, open-header, open-lists, open-sizes, open-ticks, open-rates, open-written}
+use Rattle.sheet.proofs.OpenLaws.{head-fits, open-header, open-lists, open-rooms, open-refused, Roomy, open-roomy, open-given}
 use Rattle.sheet.proofs.open_sheet.Statement.{statement}
 use Rattle.sheet.proofs.open_sheet.Tie as tie
-
--- the function's arguments, at each place where they are named below
-abbrev judged : tie.After-judge-header → tie.Start
-judged c = c .before .before .before .before .before
-
-abbrev told : tie.After-known-told → tie.Start
-told c = judged (c .before .before .before)
-
-abbrev passing : tie.After-enum-told2 → tie.After-known-told
-passing c = c .before .before .before
 
 abbrev bytes : tie.Start → List ℕ
 bytes s = now (s .args .bytes)
@@ -42,6 +30,23 @@ ticks s = now (s .args .ticks)
 
 abbrev rates : tie.Start → List ℕ
 rates s = now (s .args .rates)
+
+-- the function's arguments, at each place where they are named below
+abbrev heard : tie.After-judge-header → tie.Start
+heard c = c .before .before .before .before .before
+
+abbrev told : tie.After-known-told → tie.Start
+told c = heard (c .before .before .before)
+
+-- and the header that was judged
+abbrev listed : tie.After-enum-told2 → tie.After-known-told
+listed c = c .before .before .before
+
+abbrev roomed : tie.After-lower → tie.After-known-told
+roomed c = listed (c .before .before .before)
+
+abbrev ready : tie.After-enum-told3 → tie.After-known-told
+ready c = roomed (c .before .before)
 
 -- what the header says, once it has passed
 abbrev head : tie.After-known-told → Head
@@ -56,27 +61,30 @@ said c =
 fits : (c : tie.After-known-told) → (length (bytes (told c)) ≡ headerBytes + 8 * head c .pictures + 4 * head c .rates) × (head c .pictures ≤ sheetPicturesMax) × (head c .rates ≤ rowsMax)
 fits c = head-fits (bytes (told c)) (head c) (said c .1) (said c .0)
 
-passes : (c : tie.After-enum-told2) → lowest (listFaults (bytes (told (passing c)))) ≡ passed
-passes c = sym (c .before .before .judge-lists .ensures) ∙ ap judgementOf (c .enum-told2 .given .1)
+-- what is judged of the lists and of the room
+lists-pass : (c : tie.After-enum-told2) → lowest (listFaults (bytes (told (listed c)))) ≡ passed
+lists-pass c = sym (c .before .before .judge-lists .ensures) ∙ ap judgementOf (c .enum-told2 .given .1)
 
--- the room in the three lists
-abbrev roomy : tie.Else1 → tie.After-enum-told2
-roomy c = c .before .before
+abbrev fault : tie.Start → Judgement
+fault s = first (openFaults (bytes s) (sizes s) (ticks s) (rates s))
 
-abbrev roomy-2 : tie.Else2 → tie.After-enum-told2
-roomy-2 c = roomy (c .before .before)
+judged : (c : tie.After-lower) → judgementOf (c .lower .result) ≡ fault (told (roomed c))
+judged c =
+    let t : tie.After-known-told = roomed c in
+    let s : tie.Start = told t in
+    c .lower .ensures
+    ∙ open-rooms (bytes s) (sizes s) (ticks s) (rates s) (said t .0) (lists-pass (c .before .before .before)) (head t) (said t .1)
+    (c .before .before .judge-rooms .ensures)
+    (c .before .judge-room .ensures)
 
-abbrev ready : tie.Else3 → tie.After-enum-told2
-ready c = roomy-2 (c .before .before)
+passes : (c : tie.After-enum-told3) → fault (told (ready c)) ≡ passed
+passes c = sym (judged (c .before .before)) ∙ ap judgementOf (c .enum-told3 .given .1)
 
-room : (c : tie.Else1) → 0 + head (passing (roomy c)) .pictures ≤ length (sizes (told (passing (roomy c))))
-room c = ltb-false _ _ (sym (c .before .lacks-room .ensures) ∙ c .if1 .left)
-
-room-2 : (c : tie.Else2) → 0 + head (passing (roomy-2 c)) .pictures ≤ length (ticks (told (passing (roomy-2 c))))
-room-2 c = ltb-false _ _ (sym (c .before .lacks-room2 .ensures) ∙ c .if2 .left)
-
-room-3 : (c : tie.Else3) → 0 + head (passing (ready c)) .rates ≤ length (rates (told (passing (ready c))))
-room-3 c = ltb-false _ _ (sym (c .before .lacks-room3 .ensures) ∙ c .if3 .left)
+roomy : (c : tie.After-enum-told3) → let s = told (ready c) in Roomy (head (ready c)) (sizes s) (ticks s) (rates s)
+roomy c =
+    let t : tie.After-known-told = ready c in
+    let s : tie.Start = told t in
+    open-roomy (bytes s) (sizes s) (ticks s) (rates s) (passes c) (head t) (said t .1)
 
 judge-header-requires : tie.Need-judge-header-requires
 judge-header-requires c κs = search needs
@@ -90,7 +98,7 @@ enum-told c = search needs
 returns : tie.Need-returns
 returns c =
     let j : tie.After-judge-header = c .before .before in
-    let s : tie.Start = judged j in
+    let s : tie.Start = heard j in
     open-header (bytes s) (sizes s) (ticks s) (rates s) _ _ _ (c .enum-told .given .1) (j .judge-header .ensures)
 
 judge-lists-requires : tie.Need-judge-lists-requires
@@ -103,73 +111,53 @@ returns-2 : tie.Need-returns-2
 returns-2 c =
     let j : tie.After-judge-lists = c .before .before .before in
     let s : tie.Start = told (j .before) in
-    open-lists (bytes s) (sizes s) (ticks s) (rates s) (said (j .before) .0) _ _ (sym (j .judge-lists .ensures) ∙ ap judgementOf (c .before .judged .given .1))
+    open-refused (bytes s) (sizes s) (ticks s) (rates s)
+    (open-lists (bytes s) (sizes s) (ticks s) (rates s) (said (j .before) .0) (sym (j .judge-lists .ensures) ∙ ap judgementOf (c .before .judged .given .1)))
 
 enum-told-2 : tie.Need-enum-told-2
 enum-told-2 c = search needs
 
-lacks-room-requires : tie.Need-lacks-room-requires
-lacks-room-requires c κs = search needs
+judge-rooms-requires : tie.Need-judge-rooms-requires
+judge-rooms-requires c κs = search needs
+
+judge-room-requires : tie.Need-judge-room-requires
+judge-room-requires c κs = search needs
+
+lower-requires : tie.Need-lower-requires
+lower-requires c κs = search needs
+
+enum-known-room : tie.Need-enum-known-room
+enum-known-room c = search needs
 
 returns-3 : tie.Need-returns-3
 returns-3 c =
-    let p : tie.After-enum-told2 = c .before .before in
-    let t : tie.After-known-told = passing p in
-    let s : tie.Start = told t in
-    open-sizes (bytes s) (sizes s) (ticks s) (rates s) (said t .0) (passes p) (head t) (said t .1)
-    (sym (c .before .lacks-room .ensures) ∙ c .if1 .taken)
+    let l : tie.After-lower = c .before .before .before in
+    let s : tie.Start = told (roomed l) in
+    open-refused (bytes s) (sizes s) (ticks s) (rates s) (sym (judged l) ∙ ap judgementOf (c .before .room .given .1))
 
-lacks-room-requires-2 : tie.Need-lacks-room-requires-2
-lacks-room-requires-2 c κs = search needs
-
-returns-4 : tie.Need-returns-4
-returns-4 c =
-    let e : tie.Else1 = c .before .before in
-    let t : tie.After-known-told = passing (roomy e) in
-    let s : tie.Start = told t in
-    open-ticks (bytes s) (sizes s) (ticks s) (rates s) (said t .0) (passes (roomy e)) (head t) (said t .1)
-    (room e)
-    (sym (c .before .lacks-room2 .ensures) ∙ c .if2 .taken)
-
-lacks-room-requires-3 : tie.Need-lacks-room-requires-3
-lacks-room-requires-3 c κs = search needs
-
-returns-5 : tie.Need-returns-5
-returns-5 c =
-    let e : tie.Else2 = c .before .before in
-    let t : tie.After-known-told = passing (roomy-2 e) in
-    let s : tie.Start = told t in
-    open-rates (bytes s) (sizes s) (ticks s) (rates s) (said t .0) (passes (roomy-2 e)) (head t) (said t .1)
-    (room (e .before .before))
-    (room-2 e)
-    (sym (c .before .lacks-room3 .ensures) ∙ c .if3 .taken)
+enum-told-3 : tie.Need-enum-told-3
+enum-told-3 c = search needs
 
 read-words-requires : tie.Need-read-words-requires
-read-words-requires c κs =
-    let e : tie.Else3 = c .before in
-    omega (arith, fits (passing (ready e)), room (e .before .before .before .before))
+read-words-requires c κs = let e : tie.After-enum-told3 = c .before in omega (arith, fits (ready e), roomy e)
 
 mul-read-words : tie.Need-mul-read-words
-mul-read-words c = omega (arith, fits (passing (ready (c .before .before .before .before))))
+mul-read-words c = omega (arith, fits (ready (c .before .before .before .before)))
 
 add-read-words : tie.Need-add-read-words
-add-read-words c = omega (arith, fits (passing (ready (c .before .before .before .before))))
+add-read-words c = omega (arith, fits (ready (c .before .before .before .before)))
 
 read-words-requires-2 : tie.Need-read-words-requires-2
-read-words-requires-2 c κs =
-    let e : tie.Else3 = c .before .before .before .before .before in
-    omega (arith, fits (passing (ready e)), room-2 (e .before .before))
+read-words-requires-2 c κs = let e : tie.After-enum-told3 = c .before .before .before .before .before in omega (arith, fits (ready e), roomy e)
 
 mul-read-words-2 : tie.Need-mul-read-words-2
-mul-read-words-2 c = omega (arith, fits (passing (ready (c .before .before .before .before .before .before .before .before))))
+mul-read-words-2 c = omega (arith, fits (ready (c .before .before .before .before .before .before .before .before)))
 
 add-read-words-2 : tie.Need-add-read-words-2
-add-read-words-2 c = omega (arith, fits (passing (ready (c .before .before .before .before .before .before .before .before))))
+add-read-words-2 c = omega (arith, fits (ready (c .before .before .before .before .before .before .before .before)))
 
 read-words-requires-3 : tie.Need-read-words-requires-3
-read-words-requires-3 c κs =
-    let e : tie.Else3 = c .before .before .before .before .before .before .before .before .before in
-    omega (arith, fits (passing (ready e)), room-3 e)
+read-words-requires-3 c κs = let e : tie.After-enum-told3 = c .before .before .before .before .before .before .before .before .before in omega (arith, fits (ready e), roomy e)
 
 same-length : tie.Need-same-length
 same-length c = search needs
@@ -180,21 +168,15 @@ same-length-2 c = search needs
 same-length-3 : tie.Need-same-length-3
 same-length-3 c = search needs
 
-returns-6 : tie.Need-returns-6
-returns-6 c =
+returns-4 : tie.Need-returns-4
+returns-4 c =
     let w : tie.After-read-words3 = c .before .before in
     let v : tie.After-read-words2 = w .before .before .before .before in
     let u : tie.After-read-words = v .before .before .before .before in
-    let e : tie.Else3 = u .before .before in
-    let t : tie.After-known-told = passing (ready e) in
+    let e : tie.After-enum-told3 = u .before .before in
+    let t : tie.After-known-told = ready e in
     let s : tie.Start = told t in
-    open-written (bytes s) (sizes s) (ticks s) (rates s) (said t .0) (passes (ready e)) (head t) (said t .1)
-    (room (e .before .before .before .before))
-    (room-2 (e .before .before))
-    (room-3 e)
-    _
-    _
-    _
+    open-given (bytes s) (sizes s) (ticks s) (rates s) (passes e) (head t) (said t .1)
     (u .read-words .ensures)
     (v .read-words2 .ensures)
     (w .read-words3 .ensures)
@@ -211,12 +193,12 @@ open-sheet-spec =
     enum-known-judged
     returns-2
     enum-told-2
-    lacks-room-requires
+    judge-rooms-requires
+    judge-room-requires
+    lower-requires
+    enum-known-room
     returns-3
-    lacks-room-requires-2
-    returns-4
-    lacks-room-requires-3
-    returns-5
+    enum-told-3
     read-words-requires
     mul-read-words
     add-read-words
@@ -227,4 +209,4 @@ open-sheet-spec =
     same-length
     same-length-2
     same-length-3
-    returns-6)
+    returns-4)

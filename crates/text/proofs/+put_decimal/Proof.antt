@@ -9,8 +9,8 @@ use mathlib.Core.List.{List, [], _∷_, _++_}
 use borrow.Author.Needs.{needs}
 use denote.Ref.{now}
 use lib.ListN.{length, set, length-set}
-use Rattle.model.specs.Text.{digit, decimal}
-use Rattle.model.proofs.TextLaws.{decimal-one, decimal-step}
+use Rattle.layout.specs.Text.{digit, decimal}
+use Rattle.layout.proofs.TextLaws.{decimal-one, decimal-step}
 use Rattle.text.specs.Put.{Room, Put}
 use Rattle.text.proofs.PutLaws.{put-none, put-length, put-more, room-front, room-then}
 use borrow.Fn.Kinds.{In}

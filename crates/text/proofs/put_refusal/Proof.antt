@@ -4,7 +4,7 @@ use mathlib.Core.List.{List, _++_}
 use Prim.Native.Nat.{ℕ}
 use denote.Ref.{now}
 use borrow.Author.Needs.{needs}
-use Rattle.model.specs.Text.{letters, decimal, refusalLine}
+use Rattle.layout.specs.Text.{letters, decimal, refusalLine}
 use Rattle.text.proofs.PutLaws.{Left, left-all, left-front, left-then}
 use Rattle.text.proofs.put_refusal.Statement.{statement}
 use Rattle.text.proofs.put_refusal.Tie as tie

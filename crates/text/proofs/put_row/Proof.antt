@@ -4,7 +4,7 @@ use Prim.Native.Nat.{ℕ}
 use mathlib.Core.List.{List, _++_}
 use denote.Ref.{now}
 use borrow.Author.Needs.{needs}
-use Rattle.model.specs.Text.{letters, decimal, rowLine}
+use Rattle.layout.specs.Text.{letters, decimal, rowLine}
 use Rattle.text.proofs.PutLaws.{Left, left-all, left-front, left-then}
 use Rattle.text.proofs.put_row.Statement.{statement}
 use Rattle.text.proofs.put_row.Tie as tie

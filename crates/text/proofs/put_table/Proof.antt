@@ -10,8 +10,8 @@ use mathlib.Core.List.{List, _++_}
 use denote.Ref.{now}
 use borrow.Author.Needs.{needs}
 use lib.ListN.{length, getD}
-use Rattle.model.specs.Text.{letters, rowLine, rowLines, tableText}
-use Rattle.model.proofs.TextLaws.{rowLines-mono}
+use Rattle.layout.specs.Text.{letters, rowLine, rowLines, tableText}
+use Rattle.layout.proofs.TextLaws.{rowLines-mono}
 use Rattle.text.specs.Put.{Room, Put}
 use Rattle.text.proofs.PutLaws.{put-none, put-length, room-then, put-then, Left, left-all, left-front, left-then}
 use Rattle.text.proofs.put_table.Statement.{statement}

@@ -1,0 +1,77 @@
+// Seconds and panel readings, as C and Rust see them.
+use panel::Reading;
+use panel::Timed;
+ghost use mathlib.Core.Path.{_≡_};
+ghost use Rattle.panel.specs.Outcome.{timedOf, readingOf};
+ghost use Rattle.answers.specs.Seconds.{secondsAnswer, readingAnswer};
+
+// Wait and fill time (kind 1), or refused.
+#[repr(C)]
+pub struct PlannerSeconds {
+    pub kind: u64,
+    pub number: u64,
+    pub place: u64,
+    pub wait: f64,
+    pub fill: f64,
+}
+
+// Within the limit (kind 1, limit 0), over it (kind 2), or refused.
+#[repr(C)]
+pub struct PlannerReading {
+    pub kind: u64,
+    pub number: u64,
+    pub place: u64,
+    pub wait: f64,
+    pub limit: f64,
+}
+
+// The seconds of a bucket as a struct.
+pub fn as_seconds(timed: Timed) -> PlannerSeconds
+    ensures { λ r. ⌜ r ≡ secondsAnswer (timedOf timed) ⌝ }
+{
+    match timed {
+        Timed::Took(s) => PlannerSeconds {
+            kind: 1,
+            number: 0,
+            place: 0,
+            wait: s.wait,
+            fill: s.fill,
+        },
+        Timed::Refused(number, place) => PlannerSeconds {
+            kind: 0,
+            number: number as u64,
+            place: place as u64,
+            wait: 0.0,
+            fill: 0.0,
+        },
+    }
+}
+
+// A panel reading as a struct.
+pub fn as_reading(reading: Reading) -> PlannerReading
+    ensures { λ r. ⌜ r ≡ readingAnswer (readingOf reading) ⌝ }
+{
+    match reading {
+        Reading::Within(wait) => PlannerReading {
+            kind: 1,
+            number: 0,
+            place: 0,
+            wait,
+            limit: 0.0,
+        },
+        Reading::Over(wait, limit) => PlannerReading {
+            kind: 2,
+            number: 0,
+            place: 0,
+            wait,
+            limit,
+        },
+        Reading::Refused(number, place) => PlannerReading {
+            kind: 0,
+            number: number as u64,
+            place: place as u64,
+            wait: 0.0,
+            limit: 0.0,
+        },
+    }
+}

@@ -1,0 +1,5 @@
+pub mod CodesLaws
+pub mod PutBitsLaws
+pub mod FieldsLaws
+pub mod Undoing
+pub mod Cases

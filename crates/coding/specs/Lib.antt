@@ -1,0 +1,4 @@
+pub mod Codes
+pub mod Fields
+pub mod Params
+pub mod Undoing

@@ -1,3 +1,0 @@
-mod FieldAtLaws
-mod ReadLaws
-mod WriteLaws

@@ -1,0 +1,3 @@
+pub mod TextLaws
+pub mod SheetLaws
+pub mod Cases

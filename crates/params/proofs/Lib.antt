@@ -1,0 +1,2 @@
+pub mod FieldAtLaws
+pub mod ValuesLaws

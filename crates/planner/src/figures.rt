@@ -1,0 +1,58 @@
+// Least figures, tables and lookups, exported.
+use answers::figures::PlannerBucket;
+use answers::figures::as_found;
+use answers::figures::as_least;
+use answers::figures::as_table;
+use answers::recordings::PlannerJudgement;
+ghost use mathlib.Core.Path.{_≡_};
+ghost use Rattle.model.specs.Recording.{recording};
+ghost use Rattle.model.specs.Lookup.{table};
+ghost use Rattle.model.specs.Outcomes.{leastOutcome, tableOutcome, lookupOutcome};
+ghost use Rattle.answers.specs.Figures.{bucketAnswer, tableAnswer};
+
+// The least figures of a recording at one rate.
+#[no_mangle]
+pub extern "C" fn planner_least(
+    sizes: &[u64],
+    ticks: &[u64],
+    ts: u64,
+    nu: u64,
+    rate: u64,
+) -> PlannerBucket
+    ensures { λ r. ⌜ r ≡ bucketAnswer (leastOutcome (recording (now (sizes .entry)) (now (ticks .entry)) ts nu) rate) ⌝ }
+{
+    as_least(least::least(sizes, ticks, ts, nu, rate))
+}
+
+// Writes the least figures at every rate of a list to two lent lists from entry `at` on.
+#[no_mangle]
+pub extern "C" fn planner_table(
+    sizes: &[u64],
+    ticks: &[u64],
+    ts: u64,
+    nu: u64,
+    rates: &[u64],
+    at: usize,
+    buffers: &mut [u64],
+    fulls: &mut [u64],
+) -> PlannerJudgement
+    ensures { λ r. ⌜ tableAnswer r (now (buffers .exit)) (now (fulls .exit)) (tableOutcome (recording (now (sizes .entry)) (now (ticks .entry)) ts nu) (now (rates .entry)) at (now (buffers .entry)) (now (fulls .entry))) ⌝ }
+{
+    as_table(least::table(sizes, ticks, ts, nu, rates, at, buffers, fulls))
+}
+
+// Buffer and start fullness for any rate, from a table that is handed in.
+#[no_mangle]
+pub extern "C" fn planner_look_up(
+    rates: &[u64],
+    buffers: &[u64],
+    fulls: &[u64],
+    ts: u64,
+    nu: u64,
+    span: u64,
+    rate: u64,
+) -> PlannerBucket
+    ensures { λ r. ⌜ r ≡ bucketAnswer (lookupOutcome (table (now (rates .entry)) (now (buffers .entry)) (now (fulls .entry)) ts nu span) rate) ⌝ }
+{
+    as_found(lookup::look_up(rates, buffers, fulls, ts, nu, span, rate))
+}

@@ -1,0 +1,65 @@
+// Recordings, verdicts and schedules, exported.
+use answers::recordings::PlannerJudgement;
+use answers::recordings::PlannerVerdict;
+use answers::recordings::as_judgement;
+use answers::recordings::as_verdict;
+ghost use mathlib.Core.Path.{_≡_};
+ghost use Rattle.model.specs.Recording.{recording};
+ghost use Rattle.model.specs.Arrival.{bucket};
+ghost use Rattle.model.specs.Outcomes.{judgeOutcome, verdictOutcome, scheduleOutcome};
+ghost use Rattle.answers.specs.Recordings.{judgementAnswer, verdictAnswer, scheduleAnswer};
+
+// Judges a recording and its clock.
+#[no_mangle]
+pub extern "C" fn planner_judge(sizes: &[u64], ticks: &[u64], ts: u64, nu: u64) -> PlannerJudgement
+    ensures { λ r. ⌜ r ≡ judgementAnswer (judgeOutcome (recording (now (sizes .entry)) (now (ticks .entry)) ts nu)) ⌝ }
+{
+    as_judgement(judging::judge(sizes, ticks, ts, nu))
+}
+
+// The verdict of R, B and F.
+#[no_mangle]
+pub extern "C" fn planner_verdict(
+    sizes: &[u64],
+    ticks: &[u64],
+    ts: u64,
+    nu: u64,
+    rate: u64,
+    buffer: u64,
+    fullness: u64,
+) -> PlannerVerdict
+    ensures { λ r. ⌜ r ≡ verdictAnswer (verdictOutcome (recording (now (sizes .entry)) (now (ticks .entry)) ts nu) (bucket rate buffer fullness)) ⌝ }
+{
+    as_verdict(schedule::bucket_verdict(sizes, ticks, ts, nu, rate, buffer, fullness))
+}
+
+// Writes the schedule to two lent lists from entry `at` on, late or not, and answers the verdict.
+#[no_mangle]
+pub extern "C" fn planner_schedule(
+    sizes: &[u64],
+    ticks: &[u64],
+    ts: u64,
+    nu: u64,
+    rate: u64,
+    buffer: u64,
+    fullness: u64,
+    at: usize,
+    starts: &mut [u64],
+    ends: &mut [u64],
+) -> PlannerVerdict
+    ensures { λ r. ⌜ scheduleAnswer r (now (starts .exit)) (now (ends .exit)) (scheduleOutcome (recording (now (sizes .entry)) (now (ticks .entry)) ts nu) (bucket rate buffer fullness) at (now (starts .entry)) (now (ends .entry))) ⌝ }
+{
+    let verdict = schedule::schedule(
+        sizes,
+        ticks,
+        ts,
+        nu,
+        rate,
+        buffer,
+        fullness,
+        at,
+        starts,
+        ends,
+    );
+    as_verdict(verdict)
+}

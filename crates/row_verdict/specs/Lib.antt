@@ -1,0 +1,2 @@
+pub mod RowVerdict
+pub mod Rows

@@ -1,0 +1,4 @@
+pub mod NumbersLaws
+pub mod WordsLaws
+pub mod FilledLaws
+pub mod AnswersLaws
