@@ -1,4 +1,5 @@
-// Least figures, tables and lookups, as C and Rust see them.
+// Least figures, tables and lookups, as C and Rust see them. Serves document 01, "How bits arrive and leave", "Least
+// figures", and "Looking up a rate in a table".
 use crate::recordings::PlannerJudgement;
 use least::Figures;
 use least::Tabled;

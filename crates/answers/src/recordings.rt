@@ -1,4 +1,4 @@
-// Judgements and verdicts, as C and Rust see them.
+// Judgements and verdicts, as C and Rust see them. Serves document 01, "How bits arrive and leave".
 use judgement::Judgement;
 use schedule::Verdict;
 ghost use mathlib.Core.Path.{_≡_};

@@ -1,4 +1,4 @@
-// Parameter records, as C and Rust see them.
+// Parameter records, as C and Rust see them. Serves document 01, "HRD parameter bits".
 use params::Params;
 use params::Position;
 use params_read::ParamsRead;

@@ -1,4 +1,4 @@
-// Seconds and panel readings, as C and Rust see them.
+// Seconds and panel readings, as C and Rust see them. Serves document 01, "Looking up a rate in a table".
 use panel::Reading;
 use panel::Timed;
 ghost use mathlib.Core.Path.{_≡_};

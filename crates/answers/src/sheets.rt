@@ -1,4 +1,4 @@
-// Sheets and their text, as C and Rust see them.
+// Sheets and their text, as C and Rust see them. Serves document 01, "The sheet and the printed table".
 use print::Printed;
 use sheet::Opened;
 ghost use mathlib.Core.Path.{_≡_};

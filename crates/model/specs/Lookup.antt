@@ -9,7 +9,7 @@
 --     blend        between two rows: interpolated straight and rounded up
 --     figureAt     the figure X at a rate, for X = B and X = F
 --     lookupOf     both figures, as a bucket
--- Every difference of rates below is of a higher and a lower one, so that no subtraction stops at 0.
+-- In a table that is not refused every difference of rates below is of a higher and a lower one, so that no subtraction stops at 0.
 -- Laws: proofs/LookupLaws.antt. Assumes nothing.
 use Prim.Native.Nat.{ℕ, zero, suc, _+_, _-_, _*_}
 use mathlib.Core.Bool.{cond}

@@ -1,4 +1,5 @@
-// Least figures, tables and lookups, exported.
+// Least figures, tables and lookups, exported. Serves document 01, "How bits arrive and leave", "Least figures", and
+// "Looking up a rate in a table".
 use answers::figures::PlannerBucket;
 use answers::figures::as_found;
 use answers::figures::as_least;

@@ -1,4 +1,4 @@
-// Recordings, verdicts and schedules, exported.
+// Recordings, verdicts and schedules, exported. Serves document 01, "How bits arrive and leave".
 use answers::recordings::PlannerJudgement;
 use answers::recordings::PlannerVerdict;
 use answers::recordings::as_judgement;

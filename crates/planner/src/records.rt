@@ -1,4 +1,4 @@
-// Parameter records, exported.
+// Parameter records, exported. Serves document 01, "HRD parameter bits".
 use answers::recordings::PlannerVerdict;
 use answers::recordings::as_verdict;
 use answers::records::PlannerPosition;

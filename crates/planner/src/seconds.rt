@@ -1,4 +1,4 @@
-// Seconds and the panel, exported.
+// Seconds and the panel, exported. Serves document 01, "Looking up a rate in a table".
 use answers::seconds::PlannerReading;
 use answers::seconds::PlannerSeconds;
 use answers::seconds::as_reading;

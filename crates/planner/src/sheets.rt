@@ -1,4 +1,4 @@
-// Sheets and their text, exported.
+// Sheets and their text, exported. Serves document 01, "The sheet and the printed table".
 use answers::sheets::PlannerSheet;
 use answers::sheets::PlannerText;
 use answers::sheets::as_sheet;

@@ -6,7 +6,7 @@
 --     listOf     n numbers as a list
 --     written    a list in which some entries were written and all others kept
 --     filled     a list whose first entries were stored one by one, as far as it reaches
--- Laws: proofs/NumbersLaws.antt. Assumes nothing.
+-- Laws: proofs/NumbersLaws.antt, proofs/FilledLaws.antt. Assumes nothing.
 use Prim.Native.Nat.{ℕ, zero, suc, _+_, _-_, _/_, _<_, max}
 use mathlib.Core.Bool.{Bool, _||_}
 use mathlib.Core.List.{List, [], _∷_, _++_}
