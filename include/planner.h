@@ -188,6 +188,10 @@ PlannerSeconds planner_seconds(uint64_t rate, uint64_t buffer, uint64_t fullness
  * Refusals: 6 and 7 as planner_seconds; 13 (the limit is no finite number above 0) at 0. */
 PlannerReading planner_panel(uint64_t rate, uint64_t buffer, uint64_t fullness, double limit);
 
+/* Judges a parameter record. One that is passed can be written wherever there is room for it.
+ * Refusals: 10, as planner_write_params has it. */
+PlannerJudgement planner_judge_params(PlannerParams params);
+
 /* Reads a parameter record at a bit position. On refusal the record is all zero and next is 0.
  * Refusals: 9 (the bits end inside the record, or the start is past the end) at 0; 10 (a field
  * breaks its range or its rule) at the row of that field, at 0 for a field outside the rows. The

@@ -163,6 +163,8 @@ extern "C" {
 
     pub fn planner_panel(rate: u64, buffer: u64, fullness: u64, limit: f64) -> PlannerReading;
 
+    pub fn planner_judge_params(params: Params) -> PlannerJudgement;
+
     pub fn planner_read_params(bytes: *const u8, bytes_length: usize, start: u64) -> PlannerRead;
 
     pub fn planner_write_params(

@@ -225,6 +225,13 @@ pub fn panel(rate: u64, bucket: Bucket, limit: f64) -> Result<Reading, Refused> 
     }
 }
 
+/// Judges a parameter record; one that is passed can be written wherever there is room for it.
+pub fn judge_params(params: &Params) -> Result<(), Refused> {
+    // SAFETY: only the record crosses, and it is copied.
+    let answer = unsafe { boundary::planner_judge_params(*params) };
+    passed(answer)
+}
+
 /// Reads a parameter record at a bit position and gives the first position after it.
 pub fn read_params(bytes: &[u8], start: u64) -> Result<(Params, u64), Refused> {
     // SAFETY: pointer and length are those of a live slice, which nothing writes.

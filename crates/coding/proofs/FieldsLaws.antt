@@ -10,6 +10,7 @@
 --     params-scales    both scales keep their width
 --     params-values    and the rate and the size value of a row are at most the largest
 --     params-back      an accepted record written is read again, field by field
+--     rowsOf-at        a field of the rows made of some values, in a row
 --     params-sound     a record read is accepted, and its bits stand there as a writer would write them
 --     ShortOr, params-cut    in bits that end earlier a record reads the same, or the bits end inside one of its fields
 -- Assumes nothing.
@@ -32,7 +33,7 @@ use Rattle.terms.specs.Numbers.{listOf, outside}
 use Rattle.terms.specs.Answers.{Judgement, passed, refuseIf, orElse}
 use Rattle.coding.specs.Codes.{Bits, ue, Read, got, ended, broken, readCode, codeBits, CodeFits, Stands}
 use Rattle.coding.specs.Fields.{Field, cpb-cnt-minus1, bit-rate-scale, cpb-size-scale, bit-rate-value-minus1, cpb-size-value-minus1, cbr-flag, delay-length, rowFields, tailFields, fieldsAfterCount, fieldsOf, rowBefore, keepsRule, keeps, Stand, FieldsRead, done, short, atFault, readOn, readFields, fieldsJudged, fieldsBits}
-use Rattle.coding.specs.Params.{Params, rowValues, valuesOf, rowsOf, paramsWith, paramsFrom, paramsJudged, paramsBits, paramsReading}
+use Rattle.coding.specs.Params.{Params, frontOf, rowAt, rowValues, valuesOf, rowsOf, paramsWith, paramsFrom, paramsJudged, paramsBits, paramsReading}
 use Rattle.terms.proofs.NumbersLaws.{neighbours-all, listOf-at, listOf-append, listOf-getD, append-each, outside-false}
 use Rattle.terms.proofs.AnswersLaws.{refused-not-passed, refuseIf-passed, orElse-passed}
 use Rattle.coding.proofs.CodesLaws.{Binary, AllBits, stands-append, code-back, code-sound, codeBits-all, Longer, code-cut}
@@ -198,13 +199,13 @@ abbrev sizeAt : Params → (n : ℕ) → ℕ
 sizeAt p n = getD (p .cpb-size-value-minus1) n 0
 
 abbrev valuesBefore : Params → (n : ℕ) → List ℕ
-valuesBefore p n = (p .cpb-cnt - 1) ∷ p .bit-rate-scale ∷ p .cpb-size-scale ∷ rowValues p n
+valuesBefore p n = frontOf p ++ rowValues p n
 
 abbrev BeforePasses : Params → (n : ℕ) → Type 0
 BeforePasses p n = fieldsJudged (fieldsBefore n) [] (valuesBefore p n) ≡ passed
 
 row-passes : (p : Params) (n : ℕ) → BeforePasses p (suc n)
-    → BeforePasses p n × (fieldsJudged (fieldsAt n) (valuesBefore p n) (rateAt p n ∷ sizeAt p n ∷ getD (p .cbr-flag) n 0 ∷ []) ≡ passed)
+    → BeforePasses p n × (fieldsJudged (fieldsAt n) (valuesBefore p n) (rowAt p n) ≡ passed)
 unfolding rowFields rowValues
 row-passes p n = judged-append (fieldsBefore n) (fieldsAt n) [] (valuesBefore p n) _ (rw (rowValues-length p n))
 
@@ -256,8 +257,9 @@ judged-most f fs earlier v values ok =
 pub params-scales : (p : Params) → paramsJudged p ≡ passed → (p .bit-rate-scale < 2 ^ scaleWidth) × (p .cpb-size-scale < 2 ^ scaleWidth)
 params-scales p ok =
     let (_, scales) = judged-most _ _ _ _ _ (before-passes p ok 0 zero-le) in
-    let (rate, behind) = judged-most _ _ _ _ _ scales in
-    (suc-le-suc rate, suc-le-suc (judged-most _ _ _ _ _ behind .0))
+    let (one, behind) = judged-most _ _ _ _ _ scales in
+    let (other, _) = judged-most _ _ _ _ _ behind in
+    (omega arith, omega arith)
 
 pub params-values : (p : Params) → paramsJudged p ≡ passed → (i : ℕ) → i < p .cpb-cnt
     → (getD (p .bit-rate-value-minus1) i 0 ≤ valueMax) × (getD (p .cpb-size-value-minus1) i 0 ≤ valueMax)
@@ -276,7 +278,7 @@ params-back x params p ok st =
     let same : paramsReading x p ≡ readFields x (fieldsOf n) [] p = rw (code-back x ue p (n - 1) (omega arith) here, rows) in
     same ∙ fields-back x (fieldsOf n) [] (valuesOf params) p (fieldsOf-writable n) (simp (length-append, rowValues-length params n)) passes st
 
-rowsOf-at : (values : List ℕ) (n c i : ℕ) → n ≤ cpbCntMax → i < n → getD (rowsOf values n c) i 0 ≡ getD values (3 + 3 * i + c) 0
+pub rowsOf-at : (values : List ℕ) (n c i : ℕ) → n ≤ cpbCntMax → i < n → getD (rowsOf values n c) i 0 ≡ getD values (3 + 3 * i + c) 0
 rowsOf-at values n c i h g =
     listOf-at (λ i. cond (ltb i n) (getD values (3 + 3 * i + c) 0) 0) cpbCntMax 0 (le-trans g h) ∙ rw (lt-ltb i n g)
 

@@ -1,7 +1,7 @@
--- FieldsRead and writing a parameter record undo each other. Statements: specs/Undoing.antt.
---     written-is-read    what was written stands in the bytes, and an accepted record that stands there is readTo again
---     read-is-written    what was readTo passes and stands there as written, so writing it changes no byte
---     cut-is-short       the bits that are left readTo the same, or they end inside a field; the first they cannot, for the record ends past them
+-- Reading and writing a parameter record undo each other. Statements: specs/Undoing.antt.
+--     written-is-read    what was written stands in the bytes, an accepted record's bits read as its values, and these make the record back
+--     read-is-written    what was read passes and stands there as written, so writing it changes no byte
+--     cut-is-short       the bits that are left read the same, or they end inside a field; the first they cannot, for the record ends past them
 --     same-elsewhere     the same bits stand at the other position too
 -- Assumes nothing.
 use Prim.Native.Nat.{ℕ, _+_, _-_, _/_, _%_, _^_, _≤_, _<_}
@@ -22,7 +22,8 @@ use Rattle.coding.specs.Undoing.{readTo, WrittenIsRead, ReadIsWritten, C
 use Rattle.terms.proofs.AnswersLaws.{refuseIf-passed, answer-passed, first-passed}
 use Rattle.coding.proofs.CodesLaws.{Binary, Longer}
 use Rattle.coding.proofs.PutBitsLaws.{putBits-stands, putBits-same}
-use Rattle.coding.proofs.FieldsLaws.{fieldsBits-all, params-back, params-sound, ShortOr, params-cut}
+use Rattle.coding.proofs.FieldsLaws.{fieldsBits-all, count-passed, params-back, params-sound, ShortOr, params-cut}
+use Rattle.coding.proofs.BackLaws.{record-back}
 
 refused-not-given : {n i next : ℕ} → _≡_ {A = Answer ℕ} (refused n i) (given next) → ⊥
 refused-not-given e = let z : _≡_ {A = ℕ} 0 1 = cc in omega arith
@@ -31,7 +32,7 @@ refused-not-given e = let z : _≡_ {A = ℕ} 0 1 = cc in omega arith
 bitsOf-binary : (bytes : List ℕ) → Binary (bitsOf bytes)
 bitsOf-binary bytes i = omega arith
 
--- a reading that gives a record has readTo its values
+-- a reading that gives a record has read its values
 read-done : (r : FieldsRead) (next : ℕ) (params : Params) → readAnswer r ≡ readTo next params
     → (values : List ℕ) × (r ≡ done values next) × (params ≡ paramsFrom values)
 read-done (done values n) next params e =
@@ -40,7 +41,7 @@ read-done (done values n) next params e =
 read-done (short p) next params e = absurd (refused-not-given (ap (λ o. o .answer) e))
 read-done (atFault p row) next params e = absurd (refused-not-given (ap (λ o. o .answer) e))
 
--- what a record that was readTo says of its bits
+-- what a record that was read says of its bits
 record Sound (bytes : List ℕ) (p next : ℕ) (params : Params) : Type 0 where
   judged : paramsJudged params ≡ passed
   back : paramsFrom (valuesOf params) ≡ params
@@ -53,7 +54,7 @@ read-sound params bytes p next e =
     let (judged, back, stands, behind) = params-sound (bitsOf bytes) p values next (bitsOf-binary bytes) is in
     rw same (record { judged = judged; back = ap paramsFrom back; stands = stands; behind = behind })
 
--- the bits of an accepted record readTo as that record
+-- the bits of an accepted record read as its values
 stands-read : (params : Params) (bytes : List ℕ) (p : ℕ) → paramsJudged params ≡ passed → Stands (bitsOf bytes) p (paramsBits params)
     → readOutcome bytes p ≡ readTo (p + length (paramsBits params)) (paramsFrom (valuesOf params))
 stands-read params bytes p ok st = ap readAnswer (params-back (bitsOf bytes) params p ok st)
@@ -85,7 +86,9 @@ written-is-read params bytes after p next e =
     let (judged, room) = write-passed params bytes p .0 ok in
     let put : putBits bytes p bits ≡ after = sym (ap (λ j. bytesIf j bytes p bits) ok) ∙ ap (λ o. o .bytes) e in
     let st : Stands (bitsOf after) p bits = rw put at (putBits-stands bytes p bits (fieldsBits-all (fieldsOf (params .cpb-cnt)) (valuesOf params)) room) in
-    rw (← behind) (stands-read params after p judged st)
+    let back : readOutcome after p ≡ readTo next (paramsFrom (valuesOf params)) = rw (← behind) (stands-read params after p judged st) in
+    let (some, few, _) = count-passed (params .cpb-cnt) _ .0 judged in
+    (ap (λ o. o .answer) back, rw back (record-back params some few))
 
 pub read-is-written : ReadIsWritten
 read-is-written params bytes p next e =
@@ -94,7 +97,7 @@ read-is-written params bytes p next e =
     let ok : first (writeFaults params bytes p) ≡ passed = write-passed params bytes p .1 (s .judged, s .stands .within) in
     rw (ok, s .behind, putBits-same bytes p bits (s .stands))
 
--- no record that ends past the bits is readTo from them
+-- no record that ends past the bits is read from them
 past-not-read : (x : Bits) (p : ℕ) (values : List ℕ) (next : ℕ) → Binary x → x .end < next → paramsReading x p ≡ done values next → ⊥
 past-not-read x p values next hb h e = let (_, _, stands, behind) = params-sound x p values next hb e in omega (arith, stands .within)
 

@@ -1,6 +1,7 @@
 -- A parameter record: judged, read and written (document 01, "HRD parameter bits").
 --     Params              the count of rows, the fields by the standard's names, the rows' fields as lists with room for the most rows
 --     zeroParams          the record of a refusal
+--     frontOf, rowAt, tailOf    the values before the rows, of a row, and behind the rows
 --     valuesOf            its values in the order of the fields: "A record is its count and that many rows"
 --     paramsFrom          the record of such values; "room beyond them is zero after reading"
 --     paramsJudged        every fault of a record is 10: the first in bit order, at its row or 0
@@ -10,7 +11,7 @@
 --     writeOutcome        writing: the next position or a refusal, and the bytes afterwards
 --     rowRate, rowSize    rate and size of a row
 -- Subtraction stops at 0 for a count of 0 alone, whose record is refused before its values count. A verdict asked of a row:
--- row_verdict/specs/RowVerdict.antt. Laws: proofs/FieldsLaws.antt. Assumes nothing.
+-- row_verdict/specs/RowVerdict.antt. Laws: proofs/FieldsLaws.antt, proofs/BackLaws.antt. Assumes nothing.
 use Prim.Native.Nat.{ℕ, zero, suc, _+_, _-_, _*_, _^_}
 use mathlib.Core.Bool.{cond}
 use mathlib.Core.List.{List, [], _∷_, _++_}
@@ -35,24 +36,30 @@ pub record Params : Type 0 where
   pub dpb-output-delay-length-minus1 : ℕ
   pub time-offset-length : ℕ
 
--- the values of the first n rows
-unfoldable pub rowValues : Params → (n : ℕ) → List ℕ
-rowValues p zero = []
-rowValues p (suc n) =
-    rowValues p n
-    ++ (getD (p .bit-rate-value-minus1) n 0 ∷ getD (p .cpb-size-value-minus1) n 0 ∷ getD (p .cbr-flag) n 0 ∷ [])
+-- the three values before the rows
+abbrev pub frontOf : Params → List ℕ
+frontOf p = (p .cpb-cnt - 1) ∷ p .bit-rate-scale ∷ p .cpb-size-scale ∷ []
 
-abbrev pub valuesOf : Params → List ℕ
-valuesOf p =
-    (p .cpb-cnt - 1)
-    ∷ p .bit-rate-scale
-    ∷ p .cpb-size-scale
-    ∷ (rowValues p (p .cpb-cnt)
-    ++ (p .initial-cpb-removal-delay-length-minus1
+-- the three values of row i
+abbrev pub rowAt : Params → (i : ℕ) → List ℕ
+rowAt p i = getD (p .bit-rate-value-minus1) i 0 ∷ getD (p .cpb-size-value-minus1) i 0 ∷ getD (p .cbr-flag) i 0 ∷ []
+
+-- the four values behind the rows
+abbrev pub tailOf : Params → List ℕ
+tailOf p =
+    p .initial-cpb-removal-delay-length-minus1
     ∷ p .cpb-removal-delay-length-minus1
     ∷ p .dpb-output-delay-length-minus1
     ∷ p .time-offset-length
-    ∷ []))
+    ∷ []
+
+-- the values of the first n rows
+unfoldable pub rowValues : Params → (n : ℕ) → List ℕ
+rowValues p zero = []
+rowValues p (suc n) = rowValues p n ++ rowAt p n
+
+abbrev pub valuesOf : Params → List ℕ
+valuesOf p = frontOf p ++ (rowValues p (p .cpb-cnt) ++ tailOf p)
 
 -- field number c of every row, from the values of n rows
 abbrev pub rowsOf : (values : List ℕ) (n c : ℕ) → List ℕ

@@ -22,8 +22,8 @@ ghost use Rattle.terms.specs.Answers.{FirstBad, lowest};
 ghost use Rattle.model.specs.Recording.{recording};
 ghost use Rattle.model.specs.Arrival.{bucket};
 ghost use Rattle.model.specs.Faults.{badClock, badSize, badTick, badRate, badRateAt, badBucket, rateCheck, rateListCheck, ratesFaults, secondsFaults};
-ghost use Rattle.model.specs.Outcomes.{judgeOutcome};
 ghost use Rattle.judgement.specs.Outcome.{judgementOf};
+ghost use Rattle.judging.specs.Promises.{JudgePromise};
 
 // Whether TS or NU is out of range.
 pub fn is_bad_clock(ts: u64, nu: u64) -> bool
@@ -112,7 +112,7 @@ fn first_bad_rate(rates: &[u64]) -> usize
 
 // Judges a recording and its clock: refusals 1 to 5.
 pub fn judge(sizes: &[u64], ticks: &[u64], ts: u64, nu: u64) -> Judgement
-    ensures { λ r. ⌜ judgementOf r ≡ judgeOutcome (recording (now (sizes .entry)) (now (ticks .entry)) ts nu) ⌝ }
+    ensures { λ r. ⌜ JudgePromise (recording (now (sizes .entry)) (now (ticks .entry)) ts nu) r ⌝ }
 {
     let n = sizes.len();
     if numbers::is_outside(1, PICTURES_MAX as u64, n as u64) {

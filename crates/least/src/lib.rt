@@ -9,8 +9,7 @@ ghost use Rattle.terms.specs.Numbers.{written};
 ghost use Rattle.model.specs.Recording.{recording, Within};
 ghost use Rattle.model.specs.Least.{leastBuffer, leastFullness};
 ghost use Rattle.model.specs.Faults.{RatesWithin};
-ghost use Rattle.model.specs.Outcomes.{leastOutcome, tableOutcome};
-ghost use Rattle.least.specs.Outcome.{figuresOf, tabled};
+ghost use Rattle.least.specs.Promises.{LeastPromise, TablePromise};
 
 // The least buffer and start fullness; or a refusal, its number and its place.
 pub enum Figures {
@@ -26,7 +25,7 @@ pub enum Tabled {
 
 // The least figures of a recording at one rate: refusals 1 to 6.
 pub fn least(sizes: &[u64], ticks: &[u64], ts: u64, nu: u64, rate: u64) -> Figures
-    ensures { λ r. ⌜ figuresOf rate r ≡ leastOutcome (recording (now (sizes .entry)) (now (ticks .entry)) ts nu) rate ⌝ }
+    ensures { λ r. ⌜ LeastPromise (recording (now (sizes .entry)) (now (ticks .entry)) ts nu) rate r ⌝ }
 {
     let judged = judgement::lower(
         judging::judge(sizes, ticks, ts, nu),
@@ -72,7 +71,7 @@ pub fn table(
     buffers: &mut [u64],
     fulls: &mut [u64],
 ) -> Tabled
-    ensures { λ r. ⌜ tabled r (now (buffers .exit)) (now (fulls .exit)) ≡ tableOutcome (recording (now (sizes .entry)) (now (ticks .entry)) ts nu) (now (rates .entry)) at (now (buffers .entry)) (now (fulls .entry)) ⌝ }
+    ensures { λ r. ⌜ TablePromise (recording (now (sizes .entry)) (now (ticks .entry)) ts nu) (now (rates .entry)) at (now (buffers .entry)) (now (fulls .entry)) r (now (buffers .exit)) (now (fulls .exit)) ⌝ }
 {
     let rows = judgement::lower(
         judging::judge_rates(rates),

@@ -13,10 +13,9 @@ ghost use Rattle.terms.specs.Numbers.{roundUp};
 ghost use Rattle.terms.specs.Answers.{FirstBad, firstFault, lowest};
 ghost use Rattle.model.specs.Lookup.{table, axis, rowsUpTo, blend as blendOf, figureAt};
 ghost use Rattle.model.specs.Faults.{badSpan, badRow, lookupFaults};
-ghost use Rattle.model.specs.Outcomes.{lookupOutcome};
 ghost use Rattle.judgement.specs.Outcome.{judgementOf};
-ghost use Rattle.lookup.specs.Outcome.{foundOf};
 ghost use Rattle.lookup.specs.Ready.{FigureReady};
+ghost use Rattle.lookup.specs.Promises.{LookupPromise};
 
 // Buffer and start fullness; or a refusal, its number and its place.
 pub enum Found {
@@ -143,7 +142,7 @@ pub fn look_up(
     span: u64,
     rate: u64,
 ) -> Found
-    ensures { λ r. ⌜ foundOf rate r ≡ lookupOutcome (table (now (rates .entry)) (now (buffers .entry)) (now (fulls .entry)) ts nu span) rate ⌝ }
+    ensures { λ r. ⌜ LookupPromise (table (now (rates .entry)) (now (buffers .entry)) (now (fulls .entry)) ts nu span) rate r ⌝ }
 {
     let judged = judge(rates, buffers, fulls, ts, nu, span, rate);
     if let Judgement::Refused(number, place) = judged {

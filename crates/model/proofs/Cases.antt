@@ -1,5 +1,5 @@
 -- The starred cases of document 01, "Worked figures", that are of recordings, computed from the definitions. With those of parameter bits they
--- are one list with one claim in claims/proofs/Starred.antt.
+-- are one list with one claim in demands/proofs/Starred.antt.
 --     Figure      what a case shows: numbers, or the answer of an operation
 --     computed    the cases, in the document's order
 --     expected    what the document says of each

@@ -1,1 +1,2 @@
 mod JudgeLaws
+pub mod Unique

@@ -4,8 +4,8 @@ use rules::LIMIT;
 ghost use mathlib.Core.Path.{_≡_};
 ghost use Prim.Native.Nat.{_≤_, _^_};
 ghost use Rattle.model.specs.Arrival.{bucket};
-ghost use Rattle.model.specs.Panel.{quotient as quotientOf, badLimit, secondsOutcome, panelOutcome};
-ghost use Rattle.panel.specs.Outcome.{timedOf, readingOf};
+ghost use Rattle.model.specs.Panel.{quotient as quotientOf, badLimit};
+ghost use Rattle.panel.specs.Promises.{SecondsPromise, PanelPromise};
 
 // The wait F/R and the fill time B/R of one bucket, in seconds.
 pub struct Seconds {
@@ -48,7 +48,7 @@ fn is_bad_limit(limit: f64) -> bool
 
 // The wait and the fill time of a bucket: refusals 6 and 7.
 pub fn seconds_of(rate: u64, buffer: u64, fullness: u64) -> Timed
-    ensures { λ r. ⌜ timedOf r ≡ secondsOutcome (bucket rate buffer fullness) ⌝ }
+    ensures { λ r. ⌜ SecondsPromise (bucket rate buffer fullness) r ⌝ }
 {
     let judged = judging::judge_bucket(rate, buffer, fullness);
     if let Judgement::Refused(number, place) = judged {
@@ -62,7 +62,7 @@ pub fn seconds_of(rate: u64, buffer: u64, fullness: u64) -> Timed
 
 // The panel reading of a bucket against the driver's limit: refusals 6, 7 and 13.
 pub fn panel(rate: u64, buffer: u64, fullness: u64, limit: f64) -> Reading
-    ensures { λ r. ⌜ readingOf r ≡ panelOutcome (bucket rate buffer fullness) limit ⌝ }
+    ensures { λ r. ⌜ PanelPromise (bucket rate buffer fullness) limit r ⌝ }
 {
     let judged = judgement::lower(
         judging::judge_bucket(rate, buffer, fullness),

@@ -1,2 +1,3 @@
 pub mod FieldAtLaws
 pub mod ValuesLaws
+pub mod Unique

@@ -11,10 +11,10 @@ ghost use Prim.Native.Nat.{_+_, _-_, _*_, _≤_, _<_};
 ghost use lib.ListN.{getD};
 ghost use Rattle.rules.specs.Limits.{cpbCntMax};
 ghost use Rattle.coding.specs.Fields.{fieldsOf, cpb-cnt-minus1, placeOf};
-ghost use Rattle.coding.specs.Params.{valuesOf, paramsJudged};
-ghost use Rattle.judgement.specs.Outcome.{judgementOf};
+ghost use Rattle.coding.specs.Params.{valuesOf};
 ghost use Rattle.params.specs.Outcome.{paramsOf};
 ghost use Rattle.params.specs.Steps.{fieldOf, standOf, rowField, keptBy};
+ghost use Rattle.params.specs.Promises.{RecordPromise};
 
 // Most values of a record: three before the rows, three for each row, four after them.
 pub const VALUES_MAX: usize = 3 + 3 * CPB_CNT_MAX + 4;
@@ -184,7 +184,7 @@ pub fn value_at(params: Params, f: usize) -> u64
 
 // Judges a record: every fault is 10, the first in bit order at its row or 0.
 pub fn judge_params(params: Params) -> Judgement
-    ensures { λ r. ⌜ judgementOf r ≡ paramsJudged (paramsOf params) ⌝ }
+    ensures { λ r. ⌜ RecordPromise params r ⌝ }
 {
     let n = params.cpb_cnt;
     if n == 0 {

@@ -15,11 +15,12 @@ ghost use Rattle.rules.specs.Limits.{cpbCntMax, lengthWidth};
 ghost use Rattle.bits_read.specs.Outcome.{readOf};
 ghost use Rattle.coding.specs.Codes.{bitsOf, readCode};
 ghost use Rattle.coding.specs.Fields.{fieldsAfterCount, readFields};
-ghost use Rattle.coding.specs.Params.{paramsWith, zeroParams, readOutcome};
+ghost use Rattle.coding.specs.Params.{paramsWith, zeroParams};
 ghost use Rattle.params.specs.Outcome.{paramsOf};
 ghost use Rattle.params.specs.Steps.{codeOf, fieldOf};
 ghost use Rattle.params_read.specs.Outcome.{fieldsReadOf, paramsReadOf, noRead};
 ghost use Rattle.params_read.specs.Steps.{stepOf, fieldStep, judgedStep};
+ghost use Rattle.params_read.specs.Promises.{ReadPromise};
 
 // What reading found: the next position or a refusal, and the record, all zero on refusal.
 pub struct ParamsRead {
@@ -183,7 +184,7 @@ fn refused(number: u8, place: usize) -> ParamsRead
 
 // Reads a record at a bit position: refusals 9 and 10, the first fault in bit order.
 pub fn read_params(bytes: &[u8], start: u64) -> ParamsRead
-    ensures { λ r. ⌜ paramsReadOf r ≡ readOutcome (now (bytes .entry)) start ⌝ }
+    ensures { λ r. ⌜ ReadPromise (now (bytes .entry)) start r ⌝ }
 {
     let counted = read_field(bytes, start, params::field_at(1, 0), 0);
     if counted.kind == 1 {

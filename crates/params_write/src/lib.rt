@@ -10,10 +10,10 @@ ghost use lib.ListN.{length};
 ghost use Rattle.rules.specs.Limits.{lengthWidth, valueMax};
 ghost use Rattle.terms.specs.Answers.{passed};
 ghost use Rattle.coding.specs.Codes.{codeBits, putBits};
-ghost use Rattle.coding.specs.Params.{paramsJudged, paramsBits, writeOutcome};
+ghost use Rattle.coding.specs.Params.{paramsJudged, paramsBits};
 ghost use Rattle.params.specs.Outcome.{paramsOf};
 ghost use Rattle.params.specs.Steps.{codeOf};
-ghost use Rattle.params_write.specs.Outcome.{paramsWritten};
+ghost use Rattle.params_write.specs.Promises.{WritePromise};
 
 // How many bits a value takes in a field.
 fn field_length(field: Field, v: u64) -> u64
@@ -79,7 +79,7 @@ fn write_fields(params: Params, bytes: &mut [u8], start: u64) -> u64
 
 // Writes a record at a bit position: refusal 10 of the record, then 8. Only the record's own bits change.
 pub fn write_params(params: Params, bytes: &mut [u8], start: u64) -> Position
-    ensures { λ r. ⌜ paramsWritten r (now (bytes .exit)) ≡ writeOutcome (paramsOf params) (now (bytes .entry)) start ⌝ }
+    ensures { λ r. ⌜ WritePromise params (now (bytes .entry)) start r (now (bytes .exit)) ⌝ }
 {
     let judged = params::judge_params(params);
     if let Judgement::Refused(number, place) = judged {

@@ -1,1 +1,2 @@
 mod TellLaws
+pub mod Unique

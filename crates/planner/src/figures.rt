@@ -5,11 +5,9 @@ use answers::figures::as_found;
 use answers::figures::as_least;
 use answers::figures::as_table;
 use answers::recordings::PlannerJudgement;
-ghost use mathlib.Core.Path.{_≡_};
 ghost use Rattle.model.specs.Recording.{recording};
 ghost use Rattle.model.specs.Lookup.{table};
-ghost use Rattle.model.specs.Outcomes.{leastOutcome, tableOutcome, lookupOutcome};
-ghost use Rattle.answers.specs.Figures.{bucketAnswer, tableAnswer};
+ghost use Rattle.planner.specs.Figures.{ExportedLeast, ExportedTable, ExportedLookup};
 
 // The least figures of a recording at one rate.
 #[no_mangle]
@@ -20,7 +18,7 @@ pub extern "C" fn planner_least(
     nu: u64,
     rate: u64,
 ) -> PlannerBucket
-    ensures { λ r. ⌜ r ≡ bucketAnswer (leastOutcome (recording (now (sizes .entry)) (now (ticks .entry)) ts nu) rate) ⌝ }
+    ensures { λ r. ⌜ ExportedLeast (recording (now (sizes .entry)) (now (ticks .entry)) ts nu) rate r ⌝ }
 {
     as_least(least::least(sizes, ticks, ts, nu, rate))
 }
@@ -37,7 +35,7 @@ pub extern "C" fn planner_table(
     buffers: &mut [u64],
     fulls: &mut [u64],
 ) -> PlannerJudgement
-    ensures { λ r. ⌜ tableAnswer r (now (buffers .exit)) (now (fulls .exit)) (tableOutcome (recording (now (sizes .entry)) (now (ticks .entry)) ts nu) (now (rates .entry)) at (now (buffers .entry)) (now (fulls .entry))) ⌝ }
+    ensures { λ r. ⌜ ExportedTable (recording (now (sizes .entry)) (now (ticks .entry)) ts nu) (now (rates .entry)) at (now (buffers .entry)) (now (fulls .entry)) r (now (buffers .exit)) (now (fulls .exit)) ⌝ }
 {
     as_table(least::table(sizes, ticks, ts, nu, rates, at, buffers, fulls))
 }
@@ -53,7 +51,7 @@ pub extern "C" fn planner_look_up(
     span: u64,
     rate: u64,
 ) -> PlannerBucket
-    ensures { λ r. ⌜ r ≡ bucketAnswer (lookupOutcome (table (now (rates .entry)) (now (buffers .entry)) (now (fulls .entry)) ts nu span) rate) ⌝ }
+    ensures { λ r. ⌜ ExportedLookup (table (now (rates .entry)) (now (buffers .entry)) (now (fulls .entry)) ts nu span) rate r ⌝ }
 {
     as_found(lookup::look_up(rates, buffers, fulls, ts, nu, span, rate))
 }

@@ -3,16 +3,14 @@ use answers::recordings::PlannerJudgement;
 use answers::recordings::PlannerVerdict;
 use answers::recordings::as_judgement;
 use answers::recordings::as_verdict;
-ghost use mathlib.Core.Path.{_≡_};
 ghost use Rattle.model.specs.Recording.{recording};
 ghost use Rattle.model.specs.Arrival.{bucket};
-ghost use Rattle.model.specs.Outcomes.{judgeOutcome, verdictOutcome, scheduleOutcome};
-ghost use Rattle.answers.specs.Recordings.{judgementAnswer, verdictAnswer, scheduleAnswer};
+ghost use Rattle.planner.specs.Recordings.{ExportedJudge, ExportedVerdict, ExportedSchedule};
 
 // Judges a recording and its clock.
 #[no_mangle]
 pub extern "C" fn planner_judge(sizes: &[u64], ticks: &[u64], ts: u64, nu: u64) -> PlannerJudgement
-    ensures { λ r. ⌜ r ≡ judgementAnswer (judgeOutcome (recording (now (sizes .entry)) (now (ticks .entry)) ts nu)) ⌝ }
+    ensures { λ r. ⌜ ExportedJudge (recording (now (sizes .entry)) (now (ticks .entry)) ts nu) r ⌝ }
 {
     as_judgement(judging::judge(sizes, ticks, ts, nu))
 }
@@ -28,7 +26,7 @@ pub extern "C" fn planner_verdict(
     buffer: u64,
     fullness: u64,
 ) -> PlannerVerdict
-    ensures { λ r. ⌜ r ≡ verdictAnswer (verdictOutcome (recording (now (sizes .entry)) (now (ticks .entry)) ts nu) (bucket rate buffer fullness)) ⌝ }
+    ensures { λ r. ⌜ ExportedVerdict (recording (now (sizes .entry)) (now (ticks .entry)) ts nu) (bucket rate buffer fullness) r ⌝ }
 {
     as_verdict(schedule::bucket_verdict(sizes, ticks, ts, nu, rate, buffer, fullness))
 }
@@ -47,7 +45,7 @@ pub extern "C" fn planner_schedule(
     starts: &mut [u64],
     ends: &mut [u64],
 ) -> PlannerVerdict
-    ensures { λ r. ⌜ scheduleAnswer r (now (starts .exit)) (now (ends .exit)) (scheduleOutcome (recording (now (sizes .entry)) (now (ticks .entry)) ts nu) (bucket rate buffer fullness) at (now (starts .entry)) (now (ends .entry))) ⌝ }
+    ensures { λ r. ⌜ ExportedSchedule (recording (now (sizes .entry)) (now (ticks .entry)) ts nu) (bucket rate buffer fullness) at (now (starts .entry)) (now (ends .entry)) r (now (starts .exit)) (now (ends .exit)) ⌝ }
 {
     let verdict = schedule::schedule(
         sizes,

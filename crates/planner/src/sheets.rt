@@ -3,8 +3,7 @@ use answers::sheets::PlannerSheet;
 use answers::sheets::PlannerText;
 use answers::sheets::as_sheet;
 use answers::sheets::as_text;
-ghost use Rattle.layout.specs.Sheet.{openOutcome, printOutcome};
-ghost use Rattle.answers.specs.Sheets.{openAnswer, printAnswer};
+ghost use Rattle.planner.specs.Sheets.{ExportedOpen, ExportedPrint};
 
 // Opens a sheet: writes its sizes, ticks and rates to the first entries of three lent lists.
 #[no_mangle]
@@ -14,7 +13,7 @@ pub extern "C" fn planner_open_sheet(
     ticks: &mut [u64],
     rates: &mut [u64],
 ) -> PlannerSheet
-    ensures { λ r. ⌜ openAnswer r (now (sizes .exit)) (now (ticks .exit)) (now (rates .exit)) (openOutcome (now (bytes .entry)) (now (sizes .entry)) (now (ticks .entry)) (now (rates .entry))) ⌝ }
+    ensures { λ r. ⌜ ExportedOpen (now (bytes .entry)) (now (sizes .entry)) (now (ticks .entry)) (now (rates .entry)) r (now (sizes .exit)) (now (ticks .exit)) (now (rates .exit)) ⌝ }
 {
     as_sheet(sheet::open_sheet(bytes, sizes, ticks, rates))
 }
@@ -22,7 +21,7 @@ pub extern "C" fn planner_open_sheet(
 // Prints what a sheet comes to, its table or its refusal line, to the front of a lent list of bytes.
 #[no_mangle]
 pub extern "C" fn planner_print_sheet(bytes: &[u8], text: &mut [u8]) -> PlannerText
-    ensures { λ r. ⌜ printAnswer r (now (text .exit)) (printOutcome (now (bytes .entry)) (now (text .entry))) ⌝ }
+    ensures { λ r. ⌜ ExportedPrint (now (bytes .entry)) (now (text .entry)) r (now (text .exit)) ⌝ }
 {
     as_text(print::print_sheet(bytes, text))
 }

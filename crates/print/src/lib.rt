@@ -12,9 +12,9 @@ ghost use Rattle.terms.specs.Answers.{passed};
 ghost use Rattle.model.specs.Recording.{recording};
 ghost use Rattle.model.specs.Faults.{rateCountCheck, rateListCheck};
 ghost use Rattle.model.specs.Outcomes.{judgeOutcome};
-ghost use Rattle.layout.specs.Sheet.{leastText, sheetText, printOutcome};
+ghost use Rattle.layout.specs.Sheet.{leastText, sheetText};
 ghost use Rattle.text.specs.Put.{Put};
-ghost use Rattle.print.specs.Outcome.{printed};
+ghost use Rattle.print.specs.Promises.{PrintPromise};
 
 // How many bytes were printed; or a refusal, its number and its place.
 pub enum Printed {
@@ -71,7 +71,7 @@ fn put_sheet(bytes: &[u8], text: &mut [u8]) -> usize
 
 // Prints what a sheet comes to, its table or its refusal line, to the front of a lent list of bytes. Refusal 8.
 pub fn print_sheet(bytes: &[u8], text: &mut [u8]) -> Printed
-    ensures { λ r. ⌜ printed r (now (text .exit)) ≡ printOutcome (now (bytes .entry)) (now (text .entry)) ⌝ }
+    ensures { λ r. ⌜ PrintPromise (now (bytes .entry)) (now (text .entry)) r (now (text .exit)) ⌝ }
 {
     let mut whole = [0u8; TEXT_MAX];
     let end = put_sheet(bytes, &mut whole);

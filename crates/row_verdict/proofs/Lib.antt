@@ -1,1 +1,2 @@
 mod RowLaws
+pub mod Unique

@@ -1,2 +1,3 @@
 pub mod RowVerdict
 pub mod Rows
+pub mod Promises

@@ -11,10 +11,8 @@ ghost use mathlib.Core.Path.{_≡_};
 ghost use Prim.Native.Nat.{_+_, _*_, _^_};
 ghost use lib.ListN.{getD};
 ghost use Rattle.model.specs.Recording.{recording};
-ghost use Rattle.row_verdict.specs.RowVerdict.{rowVerdictOutcome};
-ghost use Rattle.schedule.specs.Outcome.{answerOf};
-ghost use Rattle.params.specs.Outcome.{paramsOf};
 ghost use Rattle.row_verdict.specs.Rows.{Scaled};
+ghost use Rattle.row_verdict.specs.Promises.{RowPromise};
 
 // (value + 1) x 2^(shift + scale) for the value of a row: its rate or its size.
 fn scaled(values: [u64; CPB_CNT_MAX], row: usize, shift: u64, scale: u64) -> u64
@@ -34,7 +32,7 @@ pub fn row_verdict(
     row: usize,
     fullness: u64,
 ) -> Verdict
-    ensures { λ r. ⌜ answerOf r ≡ rowVerdictOutcome (recording (now (sizes .entry)) (now (ticks .entry)) ts nu) (paramsOf params) row fullness ⌝ }
+    ensures { λ r. ⌜ RowPromise (recording (now (sizes .entry)) (now (ticks .entry)) ts nu) params row fullness r ⌝ }
 {
     let judged = params::judge_params(params);
     if let Judgement::Refused(number, place) = judged {

@@ -1,1 +1,2 @@
 mod OutcomeLaws
+pub mod Unique

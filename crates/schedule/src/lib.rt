@@ -6,10 +6,10 @@ ghost use Rattle.terms.specs.Answers.{given, lowest};
 ghost use Rattle.model.specs.Recording.{recording};
 ghost use Rattle.model.specs.Arrival.{bucket};
 ghost use Rattle.model.specs.Faults.{verdictFaults};
-ghost use Rattle.model.specs.Outcomes.{verdictOutcome, scheduleOutcome};
 ghost use Rattle.judgement.specs.Outcome.{judgementOf};
 ghost use Rattle.arrivals.specs.Seen.{seenOf};
-ghost use Rattle.schedule.specs.Outcome.{answerOf, scheduled};
+ghost use Rattle.schedule.specs.Outcome.{answerOf};
+ghost use Rattle.schedule.specs.Promises.{VerdictPromise, SchedulePromise};
 
 // The recording holds; or the first late picture and its units; or a refusal, its number and its place.
 pub enum Verdict {
@@ -56,7 +56,7 @@ pub fn bucket_verdict(
     buffer: u64,
     fullness: u64,
 ) -> Verdict
-    ensures { λ r. ⌜ answerOf r ≡ verdictOutcome (recording (now (sizes .entry)) (now (ticks .entry)) ts nu) (bucket rate buffer fullness) ⌝ }
+    ensures { λ r. ⌜ VerdictPromise (recording (now (sizes .entry)) (now (ticks .entry)) ts nu) (bucket rate buffer fullness) r ⌝ }
 {
     let judged = judge(sizes, ticks, ts, nu, rate, buffer, fullness);
     if let Judgement::Refused(number, place) = judged {
@@ -92,7 +92,7 @@ pub fn schedule(
     starts: &mut [u64],
     ends: &mut [u64],
 ) -> Verdict
-    ensures { λ r. ⌜ scheduled r (now (starts .exit)) (now (ends .exit)) ≡ scheduleOutcome (recording (now (sizes .entry)) (now (ticks .entry)) ts nu) (bucket rate buffer fullness) at (now (starts .entry)) (now (ends .entry)) ⌝ }
+    ensures { λ r. ⌜ SchedulePromise (recording (now (sizes .entry)) (now (ticks .entry)) ts nu) (bucket rate buffer fullness) at (now (starts .entry)) (now (ends .entry)) r (now (starts .exit)) (now (ends .exit)) ⌝ }
 {
     let judged = judgement::lower(
         judge(sizes, ticks, ts, nu, rate, buffer, fullness),

@@ -11,9 +11,10 @@ ghost use Prim.Native.Nat.{_≤_};
 ghost use lib.ListN.{length};
 ghost use Rattle.rules.specs.Limits.{headerBytes, sheetPicturesMax, rowsMax};
 ghost use Rattle.terms.specs.Answers.{passed, lowest, first, answerWith};
-ghost use Rattle.layout.specs.Sheet.{misplaced, pictureCount, rateCount, headerFaults, listFaults, headOf as wordsOf, openOutcome};
+ghost use Rattle.layout.specs.Sheet.{misplaced, pictureCount, rateCount, headerFaults, listFaults, headOf as wordsOf};
 ghost use Rattle.judgement.specs.Outcome.{judgementOf};
-ghost use Rattle.sheet.specs.Outcome.{headOf, openedOf, opened};
+ghost use Rattle.sheet.specs.Outcome.{headOf, openedOf};
+ghost use Rattle.sheet.specs.Promises.{OpenPromise};
 
 // What an opened sheet says beside its lists: how many pictures and rates, and the clock.
 pub struct Head {
@@ -93,7 +94,7 @@ fn judge_lists(bytes: &[u8], head: Head) -> Judgement
 
 // Opens a sheet: writes its sizes, ticks and rates to the first entries of three lent lists. Refusals 12, 1, 6, 3, 4, 5, 8.
 pub fn open_sheet(bytes: &[u8], sizes: &mut [u64], ticks: &mut [u64], rates: &mut [u64]) -> Opened
-    ensures { λ r. ⌜ opened r (now (sizes .exit)) (now (ticks .exit)) (now (rates .exit)) ≡ openOutcome (now (bytes .entry)) (now (sizes .entry)) (now (ticks .entry)) (now (rates .entry)) ⌝ }
+    ensures { λ r. ⌜ OpenPromise (now (bytes .entry)) (now (sizes .entry)) (now (ticks .entry)) (now (rates .entry)) r (now (sizes .exit)) (now (ticks .exit)) (now (rates .exit)) ⌝ }
 {
     let header = judge_header(bytes);
     let Opened::Sheet(head) = header else {

@@ -19,6 +19,8 @@
 --     map-listOf          so it is the list of its values
 --     append-each         what is true of each entry of two lists is true of each entry of one behind the other
 --     written-length      a list written in part keeps its length
+--     written-at          the part stands from the given entry on
+--     written-all         a list written in all of its entries is what was written
 --     written-append      a part written behind a part is both parts written
 --     written-more        so is one entry stored behind a part
 --     written-listOf      so n stores, of f 0 to f (n - 1), write the list of these
@@ -41,7 +43,7 @@ use mathlib.Core.Bool.{Bool, true, false, _||_, true≢false}
 use mathlib.Core.Logic.{_↔_, ⊎-elim}
 use mathlib.Core.List.{List, [], _∷_, _++_, map, append-nil, append-assoc}
 use lib.ListN.{length, getD, take, drop, set, length-append, length-take, length-drop, length-map, drop-of-length-le, List·getD-append}
-use lib.Seq.{getD-at, ext-getD, take-all, take-at, drop-at, drop-drop, set-split}
+use lib.Seq.{getD-at, getD-append-add, ext-getD, length-take-le, take-all, take-at, drop-at, drop-drop, set-split}
 use lib.Dec.{ltb, lit<}
 use borrow.Author.Tests.{ltb-false, le-ltb}
 use Rattle.terms.specs.Numbers.{roundUp, largest, outside, Rising, listOf, written}
@@ -153,6 +155,13 @@ map-listOf f l =
 
 pub written-length : (l : List ℕ) (at : ℕ) (xs : List ℕ) → at + length xs ≤ length l → length (written l at xs) ≡ length l
 written-length l at xs h = simp (length-append, length-take, length-drop) (omega arith)
+
+pub written-at : (l : List ℕ) (at : ℕ) (xs : List ℕ) (i : ℕ) → at + length xs ≤ length l → i < length xs → getD (written l at xs) (at + i) 0 ≡ getD xs i 0
+written-at l at xs i room h =
+    ap (λ n. getD (written l at xs) (n + i) 0) (sym (length-take-le at l (omega arith))) ∙ getD-append-add (take at l) _ i 0 ∙ List·getD-append xs _ 0 i h
+
+pub written-all : (l xs : List ℕ) → length xs ≡ length l → written l 0 xs ≡ xs
+written-all l xs h = rw (zero-add, drop-of-length-le l {i = length xs} (omega arith), append-nil)
 
 pub written-append : (l : List ℕ) (at : ℕ) (xs ys : List ℕ) → at + length (xs ++ ys) ≤ length l
     → written (written l at xs) (at + length xs) ys ≡ written l at (xs ++ ys)

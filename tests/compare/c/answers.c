@@ -130,6 +130,7 @@ int main(void) {
     reading("panel", planner_panel(1000, 20000, 10000, 10.0));
     reading("panel", planner_panel(1000, 20000, 10000, 9.5));
     reading("panel", planner_panel(1000, 20000, 10000, -0.0));
+    judgement("judge_params", planner_judge_params(params));
     position("write_params", planner_write_params(params, bytes, 8, 3));
     byte_list("bytes", bytes, 8);
     record_read("read_params", planner_read_params(bytes, 8, 3));
@@ -140,6 +141,7 @@ int main(void) {
     verdict("row_verdict", planner_row_verdict(sizes, 4, ticks, 4, 1, 1, params, 1, 500));
     verdict("row_verdict", planner_row_verdict(sizes, 4, ticks, 4, 1, 1, params, 2, 500));
     params.cbr_flag[1] = 2;
+    judgement("judge_params", planner_judge_params(params));
     position("write_params", planner_write_params(params, bytes, 8, 4));
     byte_list("bytes", bytes, 8);
     bytes[3] = 0xff;

@@ -2,7 +2,8 @@
 //! and every record of hrd.txt.
 
 use planner::{
-    read_params, row_verdict, verdict, write_params, Bucket, Params, Recording, Refused, Verdict,
+    judge_params, read_params, row_verdict, verdict, write_params, Bucket, Params, Recording,
+    Refused, Verdict,
 };
 
 const WORKED: [u8; 4] = [0x80, 0x6B, 0xDE, 0xF8];
@@ -105,6 +106,7 @@ fn records_with_one_fault() {
         let mut bytes = [0xA5; 520];
         let answer = write_params(&params, &mut bytes, 3);
         assert!(answer.is_ok() || bytes == [0xA5; 520]);
+        assert_eq!(judge_params(&params), answer.map(|_| ()));
         answer
     };
     assert_eq!(faulty(|_| ()), Ok(3 + 4103));
@@ -144,7 +146,9 @@ fn of_several_faults_the_first_and_10_before_8() {
     params.cbr_flag[9] = 2;
     params.cpb_size_value_minus1[9] = u64::MAX;
     params.bit_rate_value_minus1[12] = 0;
+    assert_eq!(judge_params(&params), refused(10, 9));
     assert_eq!(write_params(&params, &mut [], u64::MAX), refused(10, 9));
+    assert_eq!(judge_params(&longest()), Ok(()));
     assert_eq!(write_params(&longest(), &mut [], 0), refused(8, 0));
 }
 
@@ -154,6 +158,7 @@ fn entries_after_the_rows_are_not_looked_at() {
     params.bit_rate_value_minus1[1..].fill(u64::MAX);
     params.cpb_size_value_minus1[1..].fill(u64::MAX);
     params.cbr_flag[1..].fill(u64::MAX);
+    assert_eq!(judge_params(&params), Ok(()));
     let mut bytes = [0; 4];
     assert_eq!(write_params(&params, &mut bytes, 0), Ok(32));
     assert_eq!(bytes, WORKED);
@@ -222,6 +227,7 @@ fn every_record_of_hrd_txt() {
         let end: u64 = words[4].parse().unwrap();
         let params = params_of(&words[5..12], &words[12..]);
         assert_eq!(read_params(&bytes, start), Ok((params, end)), "{name}");
+        assert_eq!(judge_params(&params), Ok(()), "{name}");
         let mut written = turned(&bytes, start, end);
         assert_eq!(write_params(&params, &mut written, start), Ok(end));
         assert_eq!(written, bytes, "{name}");

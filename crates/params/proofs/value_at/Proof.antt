@@ -1,11 +1,11 @@
 -- `params::value_at` meets its contract: the place behind the first three values gives a row and a column, or one of the four lengths
--- (ValuesLaws.value-row, ValuesLaws.value-tail). Assumes nothing.
+-- (BackLaws.value-row, BackLaws.value-tail). Assumes nothing.
 use Prim.Native.Nat.{ℕ, _+_, _≤_, _<_}
 use native.Mathlib.Omega.{arith}
 use mathlib.Core.Path.{_≡_, sym}
 use borrow.Author.Needs.{needs}
+use Rattle.coding.proofs.BackLaws.{value-row, value-tail}
 use Rattle.params.specs.Outcome.{paramsOf}
-use Rattle.params.proofs.ValuesLaws.{value-row, value-tail}
 use Rattle.params.proofs.value_at.Statement.{statement}
 use Rattle.params.proofs.value_at.Tie as tie
 
@@ -46,7 +46,7 @@ array-read-result c = search needs
 returns-4 : tie.Need-returns-4
 returns-4 c =
     let start = c .before .before .before .before .before .before in
-    sym (value-row (paramsOf (start .args .params)) (start .args .f) 0 (search needs) (search needs) (c .before .if5 .taken))
+    sym (value-row (paramsOf (start .args .params)) (start .args .f) _ 0 (search needs) (search needs) (search needs))
 
 mul-result-2 : tie.Need-mul-result-2
 mul-result-2 c = search needs
@@ -57,7 +57,7 @@ array-read-result-2 c = search needs
 returns-5 : tie.Need-returns-5
 returns-5 c =
     let start = c .before .before .before .before .before .before .before in
-    sym (value-row (paramsOf (start .args .params)) (start .args .f) 1 (search needs) (search needs) (c .before .if6 .taken))
+    sym (value-row (paramsOf (start .args .params)) (start .args .f) _ 1 (search needs) (search needs) (search needs))
 
 mul-result-3 : tie.Need-mul-result-3
 mul-result-3 c = search needs
@@ -68,7 +68,7 @@ array-read-result-3 c = search needs
 returns-6 : tie.Need-returns-6
 returns-6 c =
     let start = c .before .before .before .before .before .before .before in
-    sym (value-row (paramsOf (start .args .params)) (start .args .f) 2 (search needs) (search needs) (search needs))
+    sym (value-row (paramsOf (start .args .params)) (start .args .f) _ 2 (search needs) (search needs) (search needs))
 
 returns-7 : tie.Need-returns-7
 returns-7 c =

@@ -61,6 +61,7 @@ operations! {
     look_up
     seconds
     panel
+    judge_params
     read_params
     write_params
     row_verdict

@@ -1,6 +1,0 @@
-pub mod Unique
-pub mod ExportsUnique
-pub mod Demand1
-pub mod Demand2
-pub mod Demand3
-pub mod Starred

@@ -1,0 +1,1 @@
+// Function-free: the demands as theorems about the planner's own answers.

@@ -1,0 +1,5 @@
+pub mod Recordings
+pub mod Figures
+pub mod Seconds
+pub mod Records
+pub mod Sheets
