@@ -1,4 +1,5 @@
-//! The variables of a function, parameters and locals, with their types as far as declarations tell them.
+//! The variables of a function, parameters and locals, with their types as far as declarations tell
+//! them.
 
 use crate::items::{named, Code, Declared, File, Typed};
 use crate::tokens::{Kind, Token, Tokens};
@@ -57,7 +58,7 @@ impl<'a> Scope<'a> {
         named(&self.known(at), self.tokens[at].text).map(|it| it.kind.clone())
     }
 
-    /// `let pattern = value;`, with an `else` block or without, and `if let pattern = value { .. }`.
+    /// `let pattern = value;`, with an `else` block or without; `if let pattern = value { .. }`.
     fn read_let(&mut self, at: usize) {
         let tokens = self.tokens;
         let equals = tokens.find(at, &["="]);
@@ -82,7 +83,7 @@ impl<'a> Scope<'a> {
         }
     }
 
-    /// A variant's pattern binds what the variant holds. Any other is a name, with a type or without.
+    /// A variant's pattern binds what the variant holds; any other is a name, typed or not.
     fn bind(&mut self, pattern: Range<usize>, value: String, place: Range<usize>) {
         let tokens = self.tokens;
         let end = tokens.find(pattern.start, &["(", ":", "="]);
@@ -146,6 +147,7 @@ impl<'a> Scope<'a> {
         let Token { kind, text, .. } = tokens[at];
         match (kind, tokens.text(at + 1)) {
             (Kind::Integer, _) => Some(NUMBER.to_string()),
+            (Kind::Name, "::") => None,
             (Kind::Name, "(") => Some(self.declared.answer(text).unwrap_or_default().to_string()),
             (Kind::Name, "{") => Some(text.to_string()),
             (Kind::Name, ".") if tokens.text(at + 3) == "(" => Some("usize".to_string()),

@@ -1,5 +1,5 @@
-//! The tokens of a Rattle file. White space and comments are none. The text of a clause is antt's: of its tokens only the
-//! brackets mean something here.
+//! The tokens of a Rattle file. White space and comments are none. The text of a clause is antt's:
+//! of its tokens only the brackets mean something here.
 
 use std::ops::{Index, Range};
 

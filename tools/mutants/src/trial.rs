@@ -28,7 +28,8 @@ impl Display for Verdict {
     }
 }
 
-/// A copy of the crates below `target/`, where `rt` looks for none. What was proved of it stays for the next time.
+/// A copy of the crates below `target/`, where `rt` looks for none. What was proved of it stays for
+/// the next time.
 pub struct Scratch {
     root: PathBuf,
 }
@@ -55,8 +56,9 @@ impl Scratch {
         }
     }
 
-    /// The verdict on a crate, one of whose files has another text, and the prover's own words. `rt dev` proves again only
-    /// what the change touches, and its refusal is one; what it lets pass is for `rt check` to judge.
+    /// The verdict on a crate, one of whose files has another text, and the prover's own words.
+    /// `rt dev` proves again what the change touches, and its refusal is one; what it lets pass is
+    /// for `rt check` to judge.
     pub fn judge(&self, name: &str, path: &Path, text: &str) -> io::Result<(Verdict, String)> {
         let path = self.root.join(path);
         let before = fs::read_to_string(&path)?;

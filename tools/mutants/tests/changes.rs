@@ -81,7 +81,7 @@ fn locals_have_the_type_of_their_value() {
     check("let l = p.third;\ny(l)", &["y(c)"]);
     check("let l = list[n];\ny(l)", &["y(c)"]);
     check("let l = list.len();\ny(l)", &["y(n)"]);
-    check("let l = own::count();\ny(l)", &["y(c)"]);
+    check("let l = v::count();\ny(l)", &["y(c)"]);
     check("let l = x(v) as usize + 1;\ny(l)", &["y(n)"]);
     check("let l = 3 + (n - 1);\ny(l)", &["y(n)"]);
     check("let l = LEAST;\ny(l)", &["y(v)"]);
