@@ -1,9 +1,9 @@
-/* The leaky bucket planner for C: the operations of libplanner.a and their answers.
- * Numbers of refusals, places and limits are those of docs/RULES.md.
+/* The leaky bucket planner for C: the operations of libplanner.a, their answers, and every number
+ * that these are made of.
  *
  * What the caller owes:
  * - Every list is a pointer and its length in entries. The pointer is valid and aligned for that
- *   many entries; for an empty list it is any non-null aligned pointer, with length 0.
+ *   many entries. For an empty list, of length 0, it may be null: nothing is read or written there.
  * - A list that is written overlaps no other list of the call. Lists that are only read may be one
  *   and the same.
  * Nothing else is owed: any numbers get an answer.
@@ -11,10 +11,18 @@
  * What the caller gets:
  * - Every list stays the caller's. The planner keeps no pointer, allocates nothing and remembers
  *   nothing from one call to the next.
- * - A refusal has kind 0, its number and its place; all figures are 0 and the lists that the call
- *   could have written are unchanged. Of several faults the lowest number is given, but for a
- *   parameter record and a sheet in the order that their operations name.
+ * - A refusal has kind PLANNER_KIND_REFUSED, its number and its place; all figures are 0 and the
+ *   lists that the call could have written are unchanged. Of several faults the lowest number is
+ *   given, but for a parameter record and a sheet in the order that their operations name.
  * - Any other answer has number 0 and place 0; a figure that its kind does not name is 0.
+ *
+ * Linking: cc program.c $(pkg-config --cflags --libs kashuloden) where the library is installed,
+ * otherwise cc -I include program.c libplanner.a. The archive is for Linux on x86-64, needs nothing
+ * but memcpy and memset, and may become part of a shared object.
+ *
+ * Threads: the library keeps nothing, so calls need no lock, as long as no call writes a list that
+ * another one uses at the same time. A stack of 192 KiB is enough for every call: the lists of a
+ * sheet are there in planner_sheet_text, twice, and in planner_open_sheet, 64 KiB each time.
  */
 #ifndef PLANNER_H
 #define PLANNER_H
@@ -22,19 +30,74 @@
 #include <stddef.h>
 #include <stdint.h>
 
+/* The version of this header. planner_version gives that of the library which is linked: where the
+ * two differ, structs or numbers may. */
+#define PLANNER_VERSION_MAJOR 0
+#define PLANNER_VERSION_MINOR 2
+#define PLANNER_VERSION_PATCH 0
+#define PLANNER_VERSION \
+    (PLANNER_VERSION_MAJOR * 10000 + PLANNER_VERSION_MINOR * 100 + PLANNER_VERSION_PATCH)
+
+/* Kinds of an answer. A struct with one kind beside the refusal has PLANNER_KIND_GIVEN. */
+#define PLANNER_KIND_REFUSED 0
+#define PLANNER_KIND_GIVEN 1
+#define PLANNER_KIND_HOLDS 1  /* PlannerVerdict */
+#define PLANNER_KIND_LATE 2   /* PlannerVerdict */
+#define PLANNER_KIND_WITHIN 1 /* PlannerPanelReading */
+#define PLANNER_KIND_OVER 2   /* PlannerPanelReading */
+#define PLANNER_KIND_TABLE 1  /* PlannerText */
+#define PLANNER_KIND_LINE 2   /* PlannerText */
+
+/* Numbers of refusals, with what each says. The operations say at which place. */
+#define PLANNER_REFUSAL_PICTURES 1  /* no picture, or too many */
+#define PLANNER_REFUSAL_LENGTHS 2   /* lists of different length */
+#define PLANNER_REFUSAL_CLOCK 3     /* ts, nu or span out of range */
+#define PLANNER_REFUSAL_SIZE 4      /* a picture's size out of range */
+#define PLANNER_REFUSAL_TICK 5      /* a tick not above the one before, or too far from the first */
+#define PLANNER_REFUSAL_RATE 6      /* rate, rate count or row out of range, or rates not rising */
+#define PLANNER_REFUSAL_BUCKET 7    /* buffer or start fullness out of range */
+#define PLANNER_REFUSAL_ROOM 8      /* too little room in a lent list */
+#define PLANNER_REFUSAL_SHORT 9     /* the bits end inside the record, or start is past the end */
+#define PLANNER_REFUSAL_FIELD 10    /* a field of the record breaks its range or its rule */
+#define PLANNER_REFUSAL_CONSTANT 11 /* the row's rate is constant */
+#define PLANNER_REFUSAL_SHEET 12    /* the sheet's header or length is not as it has to be */
+#define PLANNER_REFUSAL_LIMIT 13    /* the panel's limit is no finite number above 0 */
+
+/* Limits. Where the smallest is not named it is 1. */
+#define PLANNER_PICTURES_MAX UINT64_C(4096)       /* pictures in the lists of a recording */
+#define PLANNER_SHEET_PICTURES_MAX UINT64_C(4096) /* pictures in a sheet */
+#define PLANNER_SIZE_MAX UINT64_C(16777216)       /* bits in one picture */
+#define PLANNER_SPAN_MAX UINT64_C(65536)          /* ticks from first picture to last, from 0 */
+#define PLANNER_TS_MAX UINT64_C(131072)           /* time_scale */
+#define PLANNER_NU_MAX UINT64_C(65536)            /* num_units_in_tick */
+#define PLANNER_RATE_MAX UINT64_C(134217728)      /* bits per second */
+#define PLANNER_ROWS_MAX UINT64_C(32)             /* rates in a list, rows in a table */
+#define PLANNER_BUCKET_MAX UINT64_C(68719476736)  /* bits in a buffer, and so in a start fullness */
+#define PLANNER_CPB_CNT_MAX UINT64_C(32)          /* rows in a parameter record */
+#define PLANNER_VALUE_MAX UINT64_C(4294967294)    /* a coded rate or size, from 0 */
+#define PLANNER_ZEROS_MAX UINT64_C(32)            /* leading zeros at which a code is refused */
+#define PLANNER_SCALE_WIDTH UINT64_C(4)           /* bits of a scale */
+#define PLANNER_LENGTH_WIDTH UINT64_C(5)          /* bits of a length */
+#define PLANNER_RATE_SHIFT UINT64_C(6)            /* rate = (value + 1) x 2^(6 + scale) */
+#define PLANNER_SIZE_SHIFT UINT64_C(4)            /* size = (value + 1) x 2^(4 + scale) */
+#define PLANNER_BYTES_MAX UINT64_C(536870912)     /* bytes of a byte list that count, from 0 */
+#define PLANNER_HEADER_BYTES UINT64_C(28)         /* bytes of a sheet's header */
+#define PLANNER_SHEET_BYTES_MAX UINT64_C(32924)   /* bytes of the largest sheet */
+#define PLANNER_TEXT_MAX UINT64_C(2048)           /* bytes enough for every printed text */
+
 #ifdef __cplusplus
 extern "C" {
 #endif
 
-/* Kind 1: passed, or the table is written. */
+/* Given: passed, or the table is written. */
 typedef struct PlannerJudgement {
     uint64_t kind;
     uint64_t number;
     uint64_t place;
 } PlannerJudgement;
 
-/* Kind 1: holds. Kind 2: late, with the first late picture (counted from 0) and how many units of
- * 1/(R x TS) second late it is. */
+/* Holds; or late, with the first late picture (counted from 0) and how many units of 1/(R x TS)
+ * second late it is. */
 typedef struct PlannerVerdict {
     uint64_t kind;
     uint64_t number;
@@ -43,7 +106,7 @@ typedef struct PlannerVerdict {
     uint64_t units;
 } PlannerVerdict;
 
-/* Kind 1: buffer and start fullness in bits. */
+/* Given: buffer and start fullness in bits. */
 typedef struct PlannerBucket {
     uint64_t kind;
     uint64_t number;
@@ -52,7 +115,7 @@ typedef struct PlannerBucket {
     uint64_t fullness;
 } PlannerBucket;
 
-/* Kind 1: wait and fill time in seconds. */
+/* Given: wait and fill time in seconds. */
 typedef struct PlannerSeconds {
     uint64_t kind;
     uint64_t number;
@@ -61,19 +124,22 @@ typedef struct PlannerSeconds {
     double fill;
 } PlannerSeconds;
 
-/* Kind 1: within, with the wait in seconds. Kind 2: over, with wait and limit. */
-typedef struct PlannerReading {
+/* Within, with the wait in seconds; or over, with wait and limit. */
+typedef struct PlannerPanelReading {
     uint64_t kind;
     uint64_t number;
     uint64_t place;
     double wait;
     double limit;
-} PlannerReading;
+} PlannerPanelReading;
 
-/* A parameter record, by the names of H.264 E.1.2: the number of its rows, from 1 to 32, and that
- * many rows, the first entries of the three lists. Entries after these are 0 in a record that was
- * read and not looked at in one to write. Rates rise strictly from row to row and sizes do not
- * rise; cbr_flag is 0 or 1; lengths are as coded. */
+/* A parameter record, by the names of H.264 E.1.2, and that many rows as cpb_cnt says, the first
+ * entries of the three lists.
+ * CAUTION: cpb_cnt is the number of rows, from 1 to 32, and not cpb_cnt_minus1. Every field whose
+ * name ends in _minus1 is as coded: one less than what it stands for.
+ * Entries after the rows are 0 in a record that was read and not looked at in any other. Coded
+ * rates rise strictly from row to row and coded sizes do not rise; cbr_flag is 0 or 1.
+ * planner_params_row gives rate and size of a row in bits. */
 typedef struct PlannerParams {
     size_t cpb_cnt;
     uint64_t bit_rate_scale;
@@ -87,16 +153,16 @@ typedef struct PlannerParams {
     uint64_t time_offset_length;
 } PlannerParams;
 
-/* Kind 1: the record and the first bit position after it. */
-typedef struct PlannerRead {
+/* Given: the record and the first bit position after it. */
+typedef struct PlannerParamsRead {
     uint64_t kind;
     uint64_t number;
     uint64_t place;
     uint64_t next;
     PlannerParams params;
-} PlannerRead;
+} PlannerParamsRead;
 
-/* Kind 1: the first bit position after the record. */
+/* Given: the first bit position after the record. */
 typedef struct PlannerPosition {
     uint64_t kind;
     uint64_t number;
@@ -104,7 +170,24 @@ typedef struct PlannerPosition {
     uint64_t next;
 } PlannerPosition;
 
-/* Kind 1: how many pictures and rates a sheet has, and its clock. */
+/* Given: how many bits a record takes. */
+typedef struct PlannerLength {
+    uint64_t kind;
+    uint64_t number;
+    uint64_t place;
+    uint64_t bits;
+} PlannerLength;
+
+/* Given: rate in bits per second and size in bits of a row of a record. */
+typedef struct PlannerRow {
+    uint64_t kind;
+    uint64_t number;
+    uint64_t place;
+    uint64_t rate;
+    uint64_t size;
+} PlannerRow;
+
+/* Given: how many pictures and rates a sheet has, and its clock. */
 typedef struct PlannerSheet {
     uint64_t kind;
     uint64_t number;
@@ -115,12 +198,16 @@ typedef struct PlannerSheet {
     uint64_t nu;
 } PlannerSheet;
 
-/* Kind 1: how many bytes were printed. */
+/* Table, or line: how many bytes of the sheet's table, or of the line of its refusal, were printed.
+ * sheet_number and sheet_place are that refusal's; number and place are 0, since the call itself
+ * was not refused. */
 typedef struct PlannerText {
     uint64_t kind;
     uint64_t number;
     uint64_t place;
     uint64_t length;
+    uint64_t sheet_number;
+    uint64_t sheet_place;
 } PlannerText;
 
 /* The arguments that several operations share:
@@ -134,6 +221,9 @@ typedef struct PlannerText {
  *             before it and after the last one written stay untouched
  *   bytes     of a record, bits, of each byte the highest first; only the first 2^29 bytes count
  *   start     bit position at which a record starts, counted from 0 */
+
+/* The version of the library: PLANNER_VERSION of the header that belongs to it. */
+uint64_t planner_version(void);
 
 /* Judges a recording and its clock.
  * Refusals: 1 (picture count), 2 (lists of different length) and 3 (ts or nu) at 0; 4 (a size) and
@@ -167,8 +257,8 @@ PlannerBucket planner_least(const uint64_t *sizes, size_t sizes_length, const ui
 PlannerJudgement planner_table(const uint64_t *sizes, size_t sizes_length, const uint64_t *ticks,
                                size_t ticks_length, uint64_t ts, uint64_t nu,
                                const uint64_t *rates, size_t rates_length, size_t at,
-                               uint64_t *buffers, size_t buffers_length, uint64_t *fulls,
-                               size_t fulls_length);
+                               uint64_t *buffers, size_t buffers_length, uint64_t *fullnesses,
+                               size_t fullnesses_length);
 
 /* Gives buffer and start fullness for any rate from a table: rates strictly rising, and the buffer
  * and start fullness of every row. span is the recording's last tick less its first. Below the
@@ -177,8 +267,9 @@ PlannerJudgement planner_table(const uint64_t *sizes, size_t sizes_length, const
  * rows, at its row for a rate of the table, at 0 for the rate asked, in this order; 7 (buffer or
  * fullness) at the first such row. */
 PlannerBucket planner_look_up(const uint64_t *rates, size_t rates_length, const uint64_t *buffers,
-                              size_t buffers_length, const uint64_t *fulls, size_t fulls_length,
-                              uint64_t ts, uint64_t nu, uint64_t span, uint64_t rate);
+                              size_t buffers_length, const uint64_t *fullnesses,
+                              size_t fullnesses_length, uint64_t ts, uint64_t nu, uint64_t span,
+                              uint64_t rate);
 
 /* Gives the wait, fullness/rate, and the fill time, buffer/rate, each rounded once.
  * Refusals: 6 (rate) and 7 (buffer or fullness) at 0. */
@@ -186,17 +277,29 @@ PlannerSeconds planner_seconds(uint64_t rate, uint64_t buffer, uint64_t fullness
 
 /* Compares the wait with the driver's limit in seconds; a wait equal to the limit is within.
  * Refusals: 6 and 7 as planner_seconds; 13 (the limit is no finite number above 0) at 0. */
-PlannerReading planner_panel(uint64_t rate, uint64_t buffer, uint64_t fullness, double limit);
+PlannerPanelReading planner_panel(uint64_t rate, uint64_t buffer, uint64_t fullness, double limit);
 
 /* Judges a parameter record. One that is passed can be written wherever there is room for it.
  * Refusals: 10, as planner_write_params has it. */
 PlannerJudgement planner_judge_params(PlannerParams params);
 
+/* Gives the number of bits that planner_write_params writes for a record.
+ * Refusals: 10, as planner_write_params has it. */
+PlannerLength planner_params_length(PlannerParams params);
+
+/* Gives rate and size of a row of a parameter record, counted from 0.
+ * Refusals: 10 of the record as planner_write_params; then 6 at 0 (no such row). */
+PlannerRow planner_params_row(PlannerParams params, size_t row);
+
 /* Reads a parameter record at a bit position. On refusal the record is all zero and next is 0.
+ * CAUTION: the bytes have to be without emulation prevention. In a NAL unit as it is sent, a byte 3
+ * stands after every two bytes 0 that a byte below 4 would follow; the caller takes it out first.
+ * Left in, it is read as bits of the record, and a record that nobody wrote may come out with no
+ * refusal.
  * Refusals: 9 (the bits end inside the record, or the start is past the end) at 0; 10 (a field
  * breaks its range or its rule) at the row of that field, at 0 for a field outside the rows. The
  * first of these in bit order is given. */
-PlannerRead planner_read_params(const uint8_t *bytes, size_t bytes_length, uint64_t start);
+PlannerParamsRead planner_read_params(const uint8_t *bytes, size_t bytes_length, uint64_t start);
 
 /* Writes a parameter record at a bit position; only the record's own bits change.
  * Refusals: 10 (a field breaks its range or its rule) at the row of the first such field in bit
@@ -216,7 +319,8 @@ PlannerVerdict planner_row_verdict(const uint64_t *sizes, size_t sizes_length,
 /* Opens a sheet: little-endian words of 32 bits, a header of seven (picture count n, offset of the
  * sizes, of the ticks, rate count m, offset of the rates, ts, nu), then n sizes, n ticks and m
  * rates, 28 + 8 x n + 4 x m bytes in all. Writes sizes, ticks and rates to the first entries of
- * three lent lists; 4096, 4096 and 32 entries are always enough.
+ * three lent lists; PLANNER_SHEET_PICTURES_MAX entries in each of the first two and
+ * PLANNER_ROWS_MAX in the third are always enough.
  * Refusals: 12 (fewer than 28 bytes) at 0; then 1 (picture count) and 6 (rate count) at 0; then 12
  * (an offset, or the length) at 0; then the lowest of 3 to 5 as planner_judge, 6 at the first rate
  * out of range or not rising and 8 (too little room in one of the lists) at 0. */
@@ -225,11 +329,11 @@ PlannerSheet planner_open_sheet(const uint8_t *bytes, size_t bytes_length, uint6
                                 uint64_t *rates, size_t rates_length);
 
 /* Prints to the front of a lent list of bytes what the program prints for a sheet: its table, or
- * the line of its refusal, which is then an answer and no refusal of this call. 2048 bytes are
- * always enough; nothing ends the text but its length.
+ * the line of its refusal, which is then an answer and no refusal of this call. PLANNER_TEXT_MAX
+ * bytes are always enough; nothing ends the text but its length.
  * Refusals: 8 (too little room for the text) at 0. */
-PlannerText planner_print_sheet(const uint8_t *bytes, size_t bytes_length, uint8_t *text,
-                                size_t text_length);
+PlannerText planner_sheet_text(const uint8_t *bytes, size_t bytes_length, uint8_t *text,
+                               size_t text_length);
 
 #ifdef __cplusplus
 }

@@ -6,7 +6,7 @@ mod rounds;
 #[path = "common/straight.rs"]
 mod straight;
 
-use planner::{print_sheet, Recording};
+use planner::{sheet_text, Printed, Recording};
 use std::fmt::Write;
 use std::hint::black_box;
 
@@ -16,12 +16,19 @@ fn main() {
     let mut straight_text = String::new();
     let times = rounds::in_turns(
         |round| sheet(&straight::pictures(round)),
-        |sheet| length = print_sheet(black_box(sheet), &mut text).expect("a text"),
+        |sheet| length = table_length(sheet_text(black_box(sheet), &mut text).expect("room")),
         |sheet| straight_text = print(black_box(sheet)),
     );
     assert_eq!(&text[..length], straight_text.as_bytes());
     rounds::report(["sheet, library", "sheet, straightforward"], &times);
     println!("{:.0} sheets a second", 1.0 / times[0].median);
+}
+
+fn table_length(printed: Printed) -> usize {
+    match printed {
+        Printed::Table(length) => length,
+        Printed::Line(_, refused) => panic!("{refused}"),
+    }
 }
 
 fn sheet((sizes, ticks): &(Vec<u64>, Vec<u64>)) -> Vec<u8> {
@@ -46,11 +53,11 @@ fn print(sheet: &[u8]) -> String {
         ts: words[5],
         nu: words[6],
     };
-    let (mut buffers, mut fulls) = (vec![0; m], vec![0; m]);
-    straight::table(&rec, rates, &mut buffers, &mut fulls);
+    let (mut buffers, mut fullnesses) = (vec![0; m], vec![0; m]);
+    straight::table(&rec, rates, &mut buffers, &mut fullnesses);
     let mut text = String::from("rate buffer start\n");
     for row in 0..m {
-        writeln!(text, "{} {} {}", rates[row], buffers[row], fulls[row]).expect("a line");
+        writeln!(text, "{} {} {}", rates[row], buffers[row], fullnesses[row]).expect("a line");
     }
     text
 }

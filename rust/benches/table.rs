@@ -12,20 +12,28 @@ const ROWS: usize = 32;
 
 fn main() {
     let rates = straight::rates();
-    let (mut buffers, mut fulls) = ([0; ROWS], [0; ROWS]);
-    let (mut straight_buffers, mut straight_fulls) = ([0; ROWS], [0; ROWS]);
+    let (mut buffers, mut fullnesses) = ([0; ROWS], [0; ROWS]);
+    let (mut straight_buffers, mut straight_fullnesses) = ([0; ROWS], [0; ROWS]);
     let times = rounds::in_turns(
         straight::pictures,
         |pictures| {
             let rec = recording(black_box(pictures));
-            table(&rec, &rates, 0, &mut buffers, &mut fulls).expect("a table");
+            table(&rec, &rates, 0, &mut buffers, &mut fullnesses).expect("a table");
         },
         |pictures| {
             let rec = recording(black_box(pictures));
-            straight::table(&rec, &rates, &mut straight_buffers, &mut straight_fulls);
+            straight::table(
+                &rec,
+                &rates,
+                &mut straight_buffers,
+                &mut straight_fullnesses,
+            );
         },
     );
-    assert_eq!((buffers, fulls), (straight_buffers, straight_fulls));
+    assert_eq!(
+        (buffers, fullnesses),
+        (straight_buffers, straight_fullnesses)
+    );
     rounds::report(["table, library", "table, loop"], &times);
 }
 

@@ -6,6 +6,7 @@ use planner::{
 };
 
 fn main() -> Result<(), Refused> {
+    assert_eq!(planner::version(), planner::VERSION, "another library");
     let rec = Recording {
         sizes: &[
             5000, 1000, 1000, 1000, 1000, 1000, 500, 500, 500, 500, 500, 500,
@@ -17,11 +18,11 @@ fn main() -> Result<(), Refused> {
 
     let rates = [250, 500, 1000];
     let mut buffers = [0; 3];
-    let mut fulls = [0; 3];
-    table(&rec, &rates, 0, &mut buffers, &mut fulls)?;
+    let mut fullnesses = [0; 3];
+    table(&rec, &rates, 0, &mut buffers, &mut fullnesses)?;
     println!("rate buffer start");
     for row in 0..3 {
-        println!("{} {} {}", rates[row], buffers[row], fulls[row]);
+        println!("{} {} {}", rates[row], buffers[row], fullnesses[row]);
     }
 
     let bucket = Bucket {
@@ -40,7 +41,7 @@ fn main() -> Result<(), Refused> {
     let rows = Table {
         rates: &rates,
         buffers: &buffers,
-        fulls: &fulls,
+        fullnesses: &fullnesses,
         ts: 1,
         nu: 1,
         span: 11,

@@ -2,6 +2,15 @@
 
 use crate::Params;
 
+pub const KIND_REFUSED: u64 = 0;
+pub const KIND_GIVEN: u64 = 1;
+pub const KIND_HOLDS: u64 = 1;
+pub const KIND_LATE: u64 = 2;
+pub const KIND_WITHIN: u64 = 1;
+pub const KIND_OVER: u64 = 2;
+pub const KIND_TABLE: u64 = 1;
+pub const KIND_LINE: u64 = 2;
+
 #[repr(C)]
 pub struct PlannerJudgement {
     pub kind: u64,
@@ -37,7 +46,7 @@ pub struct PlannerSeconds {
 }
 
 #[repr(C)]
-pub struct PlannerReading {
+pub struct PlannerPanelReading {
     pub kind: u64,
     pub number: u64,
     pub place: u64,
@@ -46,7 +55,7 @@ pub struct PlannerReading {
 }
 
 #[repr(C)]
-pub struct PlannerRead {
+pub struct PlannerParamsRead {
     pub kind: u64,
     pub number: u64,
     pub place: u64,
@@ -60,6 +69,23 @@ pub struct PlannerPosition {
     pub number: u64,
     pub place: u64,
     pub next: u64,
+}
+
+#[repr(C)]
+pub struct PlannerLength {
+    pub kind: u64,
+    pub number: u64,
+    pub place: u64,
+    pub bits: u64,
+}
+
+#[repr(C)]
+pub struct PlannerRow {
+    pub kind: u64,
+    pub number: u64,
+    pub place: u64,
+    pub rate: u64,
+    pub size: u64,
 }
 
 #[repr(C)]
@@ -79,9 +105,13 @@ pub struct PlannerText {
     pub number: u64,
     pub place: u64,
     pub length: u64,
+    pub sheet_number: u64,
+    pub sheet_place: u64,
 }
 
 extern "C" {
+    pub fn planner_version() -> u64;
+
     pub fn planner_judge(
         sizes: *const u64,
         sizes_length: usize,
@@ -142,8 +172,8 @@ extern "C" {
         at: usize,
         buffers: *mut u64,
         buffers_length: usize,
-        fulls: *mut u64,
-        fulls_length: usize,
+        fullnesses: *mut u64,
+        fullnesses_length: usize,
     ) -> PlannerJudgement;
 
     pub fn planner_look_up(
@@ -151,8 +181,8 @@ extern "C" {
         rates_length: usize,
         buffers: *const u64,
         buffers_length: usize,
-        fulls: *const u64,
-        fulls_length: usize,
+        fullnesses: *const u64,
+        fullnesses_length: usize,
         ts: u64,
         nu: u64,
         span: u64,
@@ -161,11 +191,19 @@ extern "C" {
 
     pub fn planner_seconds(rate: u64, buffer: u64, fullness: u64) -> PlannerSeconds;
 
-    pub fn planner_panel(rate: u64, buffer: u64, fullness: u64, limit: f64) -> PlannerReading;
+    pub fn planner_panel(rate: u64, buffer: u64, fullness: u64, limit: f64) -> PlannerPanelReading;
 
     pub fn planner_judge_params(params: Params) -> PlannerJudgement;
 
-    pub fn planner_read_params(bytes: *const u8, bytes_length: usize, start: u64) -> PlannerRead;
+    pub fn planner_params_length(params: Params) -> PlannerLength;
+
+    pub fn planner_params_row(params: Params, row: usize) -> PlannerRow;
+
+    pub fn planner_read_params(
+        bytes: *const u8,
+        bytes_length: usize,
+        start: u64,
+    ) -> PlannerParamsRead;
 
     pub fn planner_write_params(
         params: Params,
@@ -197,7 +235,7 @@ extern "C" {
         rates_length: usize,
     ) -> PlannerSheet;
 
-    pub fn planner_print_sheet(
+    pub fn planner_sheet_text(
         bytes: *const u8,
         bytes_length: usize,
         text: *mut u8,

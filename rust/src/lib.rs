@@ -1,59 +1,114 @@
 //! The leaky bucket planner for Rust: a safe function for each exported operation of the proved
-//! library. Limits and numbers of refusals are those of docs/RULES.md.
+//! library.
+//!
+//! Every operation judges what it is handed and answers, or is [`Refused`] with a number of
+//! [`refusals`] and a place; [`limits`] has what is accepted. The library keeps nothing from one call
+//! to the next.
+
+#![deny(missing_docs)]
 
 mod boundary;
+pub mod limits;
+pub mod refusals;
 
-use boundary::{PlannerBucket, PlannerJudgement, PlannerVerdict};
+use boundary::{
+    PlannerBucket, PlannerJudgement, PlannerVerdict, KIND_GIVEN, KIND_HOLDS, KIND_LATE, KIND_LINE,
+    KIND_OVER, KIND_REFUSED, KIND_TABLE, KIND_WITHIN,
+};
+use limits::CPB_CNT_MAX;
+use std::error::Error;
+use std::fmt::{self, Display, Formatter};
 
-/// The number and the place of a refusal; a refused call leaves its lent lists unchanged.
+/// The version of this wrapper: major x 10000 + minor x 100 + patch. [`version`] gives that of the
+/// library which is linked.
+pub const VERSION: u64 = 200;
+
+/// A refusal; a refused call leaves its lent lists unchanged. It is displayed with what its number
+/// says.
 #[derive(Clone, Copy, Debug, PartialEq, Eq)]
 pub struct Refused {
+    /// One of [`refusals`].
     pub number: u8,
+    /// The picture, rate or row at fault, counted from 0; 0 where the fault is none of these.
     pub place: u64,
 }
+
+impl Display for Refused {
+    fn fmt(&self, f: &mut Formatter<'_>) -> fmt::Result {
+        write!(f, "refused {} at {}", self.number, self.place)?;
+        match refusals::meaning(self.number) {
+            Some(words) => write!(f, ": {words}"),
+            None => Ok(()),
+        }
+    }
+}
+
+impl Error for Refused {}
 
 /// The bits and the removal tick of every picture; a tick lasts nu/ts seconds.
 #[derive(Clone, Copy, Debug)]
 pub struct Recording<'a> {
+    /// Bits of each picture.
     pub sizes: &'a [u64],
+    /// Removal tick of each picture, strictly rising from any first value.
     pub ticks: &'a [u64],
+    /// time_scale.
     pub ts: u64,
+    /// num_units_in_tick.
     pub nu: u64,
 }
 
 /// Buffer and start fullness in bits.
 #[derive(Clone, Copy, Debug, PartialEq, Eq)]
 pub struct Bucket {
+    /// Bits of the buffer.
     pub buffer: u64,
+    /// Bits in it before the first picture is removed.
     pub fullness: u64,
 }
 
-/// The first late picture is late by so many units of 1/(R x TS) second.
+/// Whether a bucket holds a recording.
 #[derive(Clone, Copy, Debug, PartialEq, Eq)]
 pub enum Verdict {
+    /// No picture is late.
     Holds,
-    Late { picture: u64, units: u64 },
+    /// The first late picture, counted from 0.
+    Late {
+        /// Its number.
+        picture: u64,
+        /// How many units of 1/(R x TS) second late it is.
+        units: u64,
+    },
 }
 
 /// The rows of a table, a list for each column, with the clock and the span in ticks of its
 /// recording.
 #[derive(Clone, Copy, Debug)]
 pub struct Table<'a> {
+    /// Bits per second, strictly rising.
     pub rates: &'a [u64],
+    /// Bits of the buffer at each rate.
     pub buffers: &'a [u64],
-    pub fulls: &'a [u64],
+    /// Start fullness in bits at each rate.
+    pub fullnesses: &'a [u64],
+    /// time_scale.
     pub ts: u64,
+    /// num_units_in_tick.
     pub nu: u64,
+    /// Last tick less first tick.
     pub span: u64,
 }
 
 /// Wait and fill time in seconds.
 #[derive(Clone, Copy, Debug, PartialEq)]
 pub struct Seconds {
+    /// Start fullness over rate.
     pub wait: f64,
+    /// Buffer over rate.
     pub fill: f64,
 }
 
+/// What the driver's panel says of a wait, in seconds.
 #[derive(Clone, Copy, Debug, PartialEq)]
 pub enum Reading {
     /// The wait.
@@ -62,30 +117,89 @@ pub enum Reading {
     Over(f64, f64),
 }
 
-/// A parameter record, by the names of H.264 E.1.2: the number of its rows and that many rows.
-/// Entries after these are 0 in a record that was read and not looked at in one to write.
+/// A parameter record, by the names of H.264 E.1.2: its other fields, and that many rows as `cpb_cnt`
+/// says, the first entries of the three lists. Entries after these are 0 in a record that was read,
+/// not looked at in any other, and not compared.
+///
+/// `cpb_cnt` is the number of rows and not cpb_cnt_minus1. Every field whose name ends in `_minus1` is
+/// as coded: one less than what it stands for.
 #[repr(C)]
-#[derive(Clone, Copy, Debug, Default, PartialEq, Eq)]
+#[derive(Clone, Copy, Debug, Default)]
 pub struct Params {
+    /// Number of rows, from 1 to 32.
     pub cpb_cnt: usize,
+    /// Scale of the rates.
     pub bit_rate_scale: u64,
+    /// Scale of the sizes.
     pub cpb_size_scale: u64,
+    /// Coded rate of each row, strictly rising.
     pub bit_rate_value_minus1: [u64; 32],
+    /// Coded size of each row, not rising.
     pub cpb_size_value_minus1: [u64; 32],
+    /// 1 for a constant rate, else 0.
     pub cbr_flag: [u64; 32],
+    /// Bits of an initial removal delay, less 1.
     pub initial_cpb_removal_delay_length_minus1: u64,
+    /// Bits of a removal delay, less 1.
     pub cpb_removal_delay_length_minus1: u64,
+    /// Bits of an output delay, less 1.
     pub dpb_output_delay_length_minus1: u64,
+    /// Bits of a time offset.
     pub time_offset_length: u64,
 }
 
-/// What an opened sheet says beside its lists: how many pictures and rates it has, and its clock.
+impl PartialEq for Params {
+    fn eq(&self, other: &Params) -> bool {
+        let rows = self.cpb_cnt.min(CPB_CNT_MAX);
+        let alone = |params: &Params| {
+            [
+                params.bit_rate_scale,
+                params.cpb_size_scale,
+                params.initial_cpb_removal_delay_length_minus1,
+                params.cpb_removal_delay_length_minus1,
+                params.dpb_output_delay_length_minus1,
+                params.time_offset_length,
+            ]
+        };
+        self.cpb_cnt == other.cpb_cnt
+            && alone(self) == alone(other)
+            && self.bit_rate_value_minus1[..rows] == other.bit_rate_value_minus1[..rows]
+            && self.cpb_size_value_minus1[..rows] == other.cpb_size_value_minus1[..rows]
+            && self.cbr_flag[..rows] == other.cbr_flag[..rows]
+    }
+}
+
+impl Eq for Params {}
+
+/// A row of a parameter record.
+#[derive(Clone, Copy, Debug, PartialEq, Eq)]
+pub struct Row {
+    /// Bits per second.
+    pub rate: u64,
+    /// Bits of the buffer.
+    pub size: u64,
+}
+
+/// What an opened sheet says beside its lists.
 #[derive(Clone, Copy, Debug, PartialEq, Eq)]
 pub struct Sheet {
+    /// How many sizes and ticks were written.
     pub pictures: usize,
+    /// How many rates were written.
     pub rates: usize,
+    /// time_scale.
     pub ts: u64,
+    /// num_units_in_tick.
     pub nu: u64,
+}
+
+/// What was printed of a sheet, and how many bytes that is.
+#[derive(Clone, Copy, Debug, PartialEq, Eq)]
+pub enum Printed {
+    /// Its table.
+    Table(usize),
+    /// The line of its refusal, and that refusal.
+    Line(usize, Refused),
 }
 
 /// A call whose first arguments are a recording's two lists and its clock.
@@ -101,6 +215,12 @@ macro_rules! with_recording {
             $(, $argument)*
         )
     };
+}
+
+/// Gives the version of the library: [`VERSION`] of the wrapper that belongs to it.
+pub fn version() -> u64 {
+    // SAFETY: nothing crosses but the answer.
+    unsafe { boundary::planner_version() }
 }
 
 /// Judges a recording and its clock.
@@ -159,7 +279,7 @@ pub fn table(
     rates: &[u64],
     at: usize,
     buffers: &mut [u64],
-    fulls: &mut [u64],
+    fullnesses: &mut [u64],
 ) -> Result<(), Refused> {
     // SAFETY: pointers and lengths are those of live slices; the two written ones are borrowed
     // mutably, so they overlap no other.
@@ -172,8 +292,8 @@ pub fn table(
             at,
             buffers.as_mut_ptr(),
             buffers.len(),
-            fulls.as_mut_ptr(),
-            fulls.len()
+            fullnesses.as_mut_ptr(),
+            fullnesses.len()
         )
     };
     passed(answer)
@@ -188,8 +308,8 @@ pub fn look_up(table: &Table, rate: u64) -> Result<Bucket, Refused> {
             table.rates.len(),
             table.buffers.as_ptr(),
             table.buffers.len(),
-            table.fulls.as_ptr(),
-            table.fulls.len(),
+            table.fullnesses.as_ptr(),
+            table.fullnesses.len(),
             table.ts,
             table.nu,
             table.span,
@@ -205,7 +325,7 @@ pub fn seconds(rate: u64, bucket: Bucket) -> Result<Seconds, Refused> {
     let answer = unsafe { boundary::planner_seconds(rate, bucket.buffer, bucket.fullness) };
     let bits = [answer.wait.to_bits(), answer.fill.to_bits()];
     match kind(answer.kind, answer.number, answer.place, &bits)? {
-        1 => Ok(Seconds {
+        KIND_GIVEN => Ok(Seconds {
             wait: answer.wait,
             fill: answer.fill,
         }),
@@ -219,8 +339,8 @@ pub fn panel(rate: u64, bucket: Bucket, limit: f64) -> Result<Reading, Refused> 
     let answer = unsafe { boundary::planner_panel(rate, bucket.buffer, bucket.fullness, limit) };
     let bits = [answer.wait.to_bits(), answer.limit.to_bits()];
     match kind(answer.kind, answer.number, answer.place, &bits)? {
-        1 => Ok(Reading::Within(answer.wait)),
-        2 => Ok(Reading::Over(answer.wait, answer.limit)),
+        KIND_WITHIN => Ok(Reading::Within(answer.wait)),
+        KIND_OVER => Ok(Reading::Over(answer.wait, answer.limit)),
         other => unknown(other),
     }
 }
@@ -232,13 +352,39 @@ pub fn judge_params(params: &Params) -> Result<(), Refused> {
     passed(answer)
 }
 
-/// Reads a parameter record at a bit position and gives the first position after it.
+/// Gives the number of bits that [`write_params`] writes for a record.
+pub fn params_length(params: &Params) -> Result<u64, Refused> {
+    // SAFETY: only the record crosses, and it is copied.
+    let answer = unsafe { boundary::planner_params_length(*params) };
+    match kind(answer.kind, answer.number, answer.place, &[answer.bits])? {
+        KIND_GIVEN => Ok(answer.bits),
+        other => unknown(other),
+    }
+}
+
+/// Gives rate and size of a row of a parameter record, counted from 0.
+pub fn params_row(params: &Params, row: usize) -> Result<Row, Refused> {
+    // SAFETY: only the record and a number cross, and both are copied.
+    let answer = unsafe { boundary::planner_params_row(*params, row) };
+    let figures = [answer.rate, answer.size];
+    match kind(answer.kind, answer.number, answer.place, &figures)? {
+        KIND_GIVEN => Ok(Row {
+            rate: answer.rate,
+            size: answer.size,
+        }),
+        other => unknown(other),
+    }
+}
+
+/// Reads a parameter record at a bit position and gives the first position after it. The bytes have
+/// to be without emulation prevention: a byte 3 that a NAL unit has after two bytes 0 is taken out
+/// first, or it is read as bits of the record.
 pub fn read_params(bytes: &[u8], start: u64) -> Result<(Params, u64), Refused> {
     // SAFETY: pointer and length are those of a live slice, which nothing writes.
     let answer = unsafe { boundary::planner_read_params(bytes.as_ptr(), bytes.len(), start) };
-    debug_assert!(answer.kind != 0 || answer.params == Params::default());
+    debug_assert!(answer.kind != KIND_REFUSED || all_zero(&answer.params));
     match kind(answer.kind, answer.number, answer.place, &[answer.next])? {
-        1 => Ok((answer.params, answer.next)),
+        KIND_GIVEN => Ok((answer.params, answer.next)),
         other => unknown(other),
     }
 }
@@ -251,7 +397,7 @@ pub fn write_params(params: &Params, bytes: &mut [u8], start: u64) -> Result<u64
     let answer =
         unsafe { boundary::planner_write_params(*params, bytes.as_mut_ptr(), bytes.len(), start) };
     match kind(answer.kind, answer.number, answer.place, &[answer.next])? {
-        1 => Ok(answer.next),
+        KIND_GIVEN => Ok(answer.next),
         other => unknown(other),
     }
 }
@@ -293,7 +439,7 @@ pub fn open_sheet(
     };
     let figures = [answer.pictures, answer.rates, answer.ts, answer.nu];
     match kind(answer.kind, answer.number, answer.place, &figures)? {
-        1 => Ok(Sheet {
+        KIND_GIVEN => Ok(Sheet {
             pictures: answer.pictures as usize,
             rates: answer.rates as usize,
             ts: answer.ts,
@@ -303,23 +449,27 @@ pub fn open_sheet(
     }
 }
 
-/// Prints what a sheet comes to, its table or its refusal line, to the front of a list of bytes,
-/// and gives the number of bytes printed.
-pub fn print_sheet(bytes: &[u8], text: &mut [u8]) -> Result<usize, Refused> {
+/// Prints what a sheet comes to, its table or its refusal line, to the front of a list of bytes.
+pub fn sheet_text(bytes: &[u8], text: &mut [u8]) -> Result<Printed, Refused> {
     // SAFETY: pointers and lengths are those of live slices; the written one is borrowed mutably,
     // so it overlaps no other.
     let answer = unsafe {
-        boundary::planner_print_sheet(bytes.as_ptr(), bytes.len(), text.as_mut_ptr(), text.len())
+        boundary::planner_sheet_text(bytes.as_ptr(), bytes.len(), text.as_mut_ptr(), text.len())
     };
-    match kind(answer.kind, answer.number, answer.place, &[answer.length])? {
-        1 => Ok(answer.length as usize),
+    let figures = [answer.length, answer.sheet_number, answer.sheet_place];
+    match kind(answer.kind, answer.number, answer.place, &figures)? {
+        KIND_TABLE => Ok(Printed::Table(answer.length as usize)),
+        KIND_LINE => Ok(Printed::Line(
+            answer.length as usize,
+            refused(answer.sheet_number, answer.sheet_place),
+        )),
         other => unknown(other),
     }
 }
 
 fn passed(answer: PlannerJudgement) -> Result<(), Refused> {
     match kind(answer.kind, answer.number, answer.place, &[])? {
-        1 => Ok(()),
+        KIND_GIVEN => Ok(()),
         other => unknown(other),
     }
 }
@@ -327,8 +477,8 @@ fn passed(answer: PlannerJudgement) -> Result<(), Refused> {
 fn held(answer: PlannerVerdict) -> Result<Verdict, Refused> {
     let figures = [answer.picture, answer.units];
     match kind(answer.kind, answer.number, answer.place, &figures)? {
-        1 => Ok(Verdict::Holds),
-        2 => Ok(Verdict::Late {
+        KIND_HOLDS => Ok(Verdict::Holds),
+        KIND_LATE => Ok(Verdict::Late {
             picture: answer.picture,
             units: answer.units,
         }),
@@ -339,7 +489,7 @@ fn held(answer: PlannerVerdict) -> Result<Verdict, Refused> {
 fn figures(answer: PlannerBucket) -> Result<Bucket, Refused> {
     let figures = [answer.buffer, answer.fullness];
     match kind(answer.kind, answer.number, answer.place, &figures)? {
-        1 => Ok(Bucket {
+        KIND_GIVEN => Ok(Bucket {
             buffer: answer.buffer,
             fullness: answer.fullness,
         }),
@@ -347,16 +497,30 @@ fn figures(answer: PlannerBucket) -> Result<Bucket, Refused> {
     }
 }
 
+/// Whether a record is the one of a refusal: 0 everywhere, beyond its rows too.
+fn all_zero(params: &Params) -> bool {
+    let rows = [
+        params.bit_rate_value_minus1,
+        params.cpb_size_value_minus1,
+        params.cbr_flag,
+    ];
+    *params == Params::default() && rows == [[0; CPB_CNT_MAX]; 3]
+}
+
 /// The kind of an answer that is no refusal. A refusal's figures are 0; every other answer's
 /// number and place are.
 fn kind(kind: u64, number: u64, place: u64, figures: &[u64]) -> Result<u64, Refused> {
-    if kind == 0 {
+    if kind == KIND_REFUSED {
         debug_assert!(figures.iter().all(|&figure| figure == 0));
-        let number = u8::try_from(number).expect("a refusal's number is from 1 to 13");
-        return Err(Refused { number, place });
+        return Err(refused(number, place));
     }
     debug_assert_eq!((number, place), (0, 0));
     Ok(kind)
+}
+
+fn refused(number: u64, place: u64) -> Refused {
+    let number = u8::try_from(number).expect("a refusal's number is one of `refusals`");
+    Refused { number, place }
 }
 
 fn unknown(kind: u64) -> ! {

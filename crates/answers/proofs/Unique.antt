@@ -5,9 +5,9 @@ use mathlib.Core.Path.{_≡_, sym, _∙_}
 use Rattle.coding.specs.Params.{ParamsRead}
 use Rattle.params.proofs.Unique.{paramsOf-one}
 use Rattle.answers.specs.Records.{readAnswer}
-use Rattle.answers.specs.declared.records.PlannerRead.{PlannerRead}
+use Rattle.answers.specs.declared.records.PlannerParamsRead.{PlannerParamsRead}
 
-pub readAnswer-one : (t : ParamsRead) (v w : PlannerRead) → readAnswer v t → readAnswer w t → v ≡ w
+pub readAnswer-one : (t : ParamsRead) (v w : PlannerParamsRead) → readAnswer v t → readAnswer w t → v ≡ w
 readAnswer-one t v w p q =
     let position = p .0 ∙ sym (q .0) in
     let same = paramsOf-one (v .params) (w .params) (p .1 ∙ sym (q .1)) in

@@ -4,6 +4,8 @@ use crate::recordings::PlannerJudgement;
 use least::Figures;
 use least::Tabled;
 use lookup::Found;
+use rules::KIND_GIVEN;
+use rules::KIND_REFUSED;
 ghost use mathlib.Core.Path.{_≡_};
 ghost use Prim.Native.Nat.{ℕ};
 ghost use Rattle.least.specs.Outcome.{figuresOf, tabledOf};
@@ -27,14 +29,14 @@ pub fn as_least(figures: Figures) -> PlannerBucket
 {
     match figures {
         Figures::Least(buffer, fullness) => PlannerBucket {
-            kind: 1,
+            kind: KIND_GIVEN,
             number: 0,
             place: 0,
             buffer,
             fullness,
         },
         Figures::Refused(number, place) => PlannerBucket {
-            kind: 0,
+            kind: KIND_REFUSED,
             number: number as u64,
             place: place as u64,
             buffer: 0,
@@ -49,12 +51,12 @@ pub fn as_table(tabled: Tabled) -> PlannerJudgement
 {
     match tabled {
         Tabled::Written => PlannerJudgement {
-            kind: 1,
+            kind: KIND_GIVEN,
             number: 0,
             place: 0,
         },
         Tabled::Refused(number, place) => PlannerJudgement {
-            kind: 0,
+            kind: KIND_REFUSED,
             number: number as u64,
             place: place as u64,
         },
@@ -67,14 +69,14 @@ pub fn as_found(found: Found) -> PlannerBucket
 {
     match found {
         Found::Bucket(buffer, fullness) => PlannerBucket {
-            kind: 1,
+            kind: KIND_GIVEN,
             number: 0,
             place: 0,
             buffer,
             fullness,
         },
         Found::Refused(number, place) => PlannerBucket {
-            kind: 0,
+            kind: KIND_REFUSED,
             number: number as u64,
             place: place as u64,
             buffer: 0,

@@ -1,5 +1,9 @@
 // Judgements and verdicts, as C and Rust see them. Serves document 01, "How bits arrive and leave".
 use judgement::Judgement;
+use rules::KIND_GIVEN;
+use rules::KIND_HOLDS;
+use rules::KIND_LATE;
+use rules::KIND_REFUSED;
 use schedule::Verdict;
 ghost use mathlib.Core.Path.{_≡_};
 ghost use Rattle.judgement.specs.Outcome.{judgementOf};
@@ -30,12 +34,12 @@ pub fn as_judgement(judged: Judgement) -> PlannerJudgement
 {
     match judged {
         Judgement::Passed => PlannerJudgement {
-            kind: 1,
+            kind: KIND_GIVEN,
             number: 0,
             place: 0,
         },
         Judgement::Refused(number, place) => PlannerJudgement {
-            kind: 0,
+            kind: KIND_REFUSED,
             number: number as u64,
             place: place as u64,
         },
@@ -48,21 +52,21 @@ pub fn as_verdict(verdict: Verdict) -> PlannerVerdict
 {
     match verdict {
         Verdict::Holds => PlannerVerdict {
-            kind: 1,
+            kind: KIND_HOLDS,
             number: 0,
             place: 0,
             picture: 0,
             units: 0,
         },
         Verdict::Late(picture, units) => PlannerVerdict {
-            kind: 2,
+            kind: KIND_LATE,
             number: 0,
             place: 0,
             picture: picture as u64,
             units,
         },
         Verdict::Refused(number, place) => PlannerVerdict {
-            kind: 0,
+            kind: KIND_REFUSED,
             number: number as u64,
             place: place as u64,
             picture: 0,

@@ -2,14 +2,20 @@
 use params::Params;
 use params::Position;
 use params_read::ParamsRead;
+use params_write::Length;
+use row_verdict::ParamsRow;
+use rules::KIND_GIVEN;
+use rules::KIND_REFUSED;
 ghost use mathlib.Core.Path.{_≡_};
 ghost use Rattle.params.specs.Outcome.{positionOf};
 ghost use Rattle.params_read.specs.Outcome.{paramsReadOf};
-ghost use Rattle.answers.specs.Records.{positionAnswer, readAnswer};
+ghost use Rattle.params_write.specs.Outcome.{lengthOf};
+ghost use Rattle.row_verdict.specs.Outcome.{paramsRowOf};
+ghost use Rattle.answers.specs.Records.{positionAnswer, readAnswer, lengthAnswer, rowAnswer};
 
 // A record and the next bit position (kind 1), or refused, with the record all zero.
 #[repr(C)]
-pub struct PlannerRead {
+pub struct PlannerParamsRead {
     pub kind: u64,
     pub number: u64,
     pub place: u64,
@@ -26,22 +32,41 @@ pub struct PlannerPosition {
     pub next: u64,
 }
 
+// How many bits a record takes (kind 1), or refused.
+#[repr(C)]
+pub struct PlannerLength {
+    pub kind: u64,
+    pub number: u64,
+    pub place: u64,
+    pub bits: u64,
+}
+
+// Rate and size of a row of a record (kind 1), or refused.
+#[repr(C)]
+pub struct PlannerRow {
+    pub kind: u64,
+    pub number: u64,
+    pub place: u64,
+    pub rate: u64,
+    pub size: u64,
+}
+
 // What reading a record found as a struct.
-pub fn as_read(found: ParamsRead) -> PlannerRead
+pub fn as_read(found: ParamsRead) -> PlannerParamsRead
     ensures { λ r. ⌜ readAnswer r (paramsReadOf found) ⌝ }
 {
     let params = found.params;
     let position = found.position;
     match position {
-        Position::Next(next) => PlannerRead {
-            kind: 1,
+        Position::Next(next) => PlannerParamsRead {
+            kind: KIND_GIVEN,
             number: 0,
             place: 0,
             next,
             params,
         },
-        Position::Refused(number, place) => PlannerRead {
-            kind: 0,
+        Position::Refused(number, place) => PlannerParamsRead {
+            kind: KIND_REFUSED,
             number: number as u64,
             place: place as u64,
             next: 0,
@@ -56,16 +81,58 @@ pub fn as_position(position: Position) -> PlannerPosition
 {
     match position {
         Position::Next(next) => PlannerPosition {
-            kind: 1,
+            kind: KIND_GIVEN,
             number: 0,
             place: 0,
             next,
         },
         Position::Refused(number, place) => PlannerPosition {
-            kind: 0,
+            kind: KIND_REFUSED,
             number: number as u64,
             place: place as u64,
             next: 0,
+        },
+    }
+}
+
+// How many bits a record takes as a struct.
+pub fn as_length(length: Length) -> PlannerLength
+    ensures { λ r. ⌜ r ≡ lengthAnswer (lengthOf length) ⌝ }
+{
+    match length {
+        Length::Bits(bits) => PlannerLength {
+            kind: KIND_GIVEN,
+            number: 0,
+            place: 0,
+            bits,
+        },
+        Length::Refused(number, place) => PlannerLength {
+            kind: KIND_REFUSED,
+            number: number as u64,
+            place: place as u64,
+            bits: 0,
+        },
+    }
+}
+
+// Rate and size of a row as a struct.
+pub fn as_row(row: ParamsRow) -> PlannerRow
+    ensures { λ r. ⌜ r ≡ rowAnswer (paramsRowOf row) ⌝ }
+{
+    match row {
+        ParamsRow::Row(rate, size) => PlannerRow {
+            kind: KIND_GIVEN,
+            number: 0,
+            place: 0,
+            rate,
+            size,
+        },
+        ParamsRow::Refused(number, place) => PlannerRow {
+            kind: KIND_REFUSED,
+            number: number as u64,
+            place: place as u64,
+            rate: 0,
+            size: 0,
         },
     }
 }

@@ -1,6 +1,10 @@
 // Seconds and panel readings, as C and Rust see them. Serves document 01, "Looking up a rate in a table".
 use panel::Reading;
 use panel::Timed;
+use rules::KIND_GIVEN;
+use rules::KIND_OVER;
+use rules::KIND_REFUSED;
+use rules::KIND_WITHIN;
 ghost use mathlib.Core.Path.{_≡_};
 ghost use Rattle.panel.specs.Outcome.{timedOf, readingOf};
 ghost use Rattle.answers.specs.Seconds.{secondsAnswer, readingAnswer};
@@ -17,7 +21,7 @@ pub struct PlannerSeconds {
 
 // Within the limit (kind 1, limit 0), over it (kind 2), or refused.
 #[repr(C)]
-pub struct PlannerReading {
+pub struct PlannerPanelReading {
     pub kind: u64,
     pub number: u64,
     pub place: u64,
@@ -31,14 +35,14 @@ pub fn as_seconds(timed: Timed) -> PlannerSeconds
 {
     match timed {
         Timed::Took(s) => PlannerSeconds {
-            kind: 1,
+            kind: KIND_GIVEN,
             number: 0,
             place: 0,
             wait: s.wait,
             fill: s.fill,
         },
         Timed::Refused(number, place) => PlannerSeconds {
-            kind: 0,
+            kind: KIND_REFUSED,
             number: number as u64,
             place: place as u64,
             wait: 0.0,
@@ -48,26 +52,26 @@ pub fn as_seconds(timed: Timed) -> PlannerSeconds
 }
 
 // A panel reading as a struct.
-pub fn as_reading(reading: Reading) -> PlannerReading
+pub fn as_reading(reading: Reading) -> PlannerPanelReading
     ensures { λ r. ⌜ r ≡ readingAnswer (readingOf reading) ⌝ }
 {
     match reading {
-        Reading::Within(wait) => PlannerReading {
-            kind: 1,
+        Reading::Within(wait) => PlannerPanelReading {
+            kind: KIND_WITHIN,
             number: 0,
             place: 0,
             wait,
             limit: 0.0,
         },
-        Reading::Over(wait, limit) => PlannerReading {
-            kind: 2,
+        Reading::Over(wait, limit) => PlannerPanelReading {
+            kind: KIND_OVER,
             number: 0,
             place: 0,
             wait,
             limit,
         },
-        Reading::Refused(number, place) => PlannerReading {
-            kind: 0,
+        Reading::Refused(number, place) => PlannerPanelReading {
+            kind: KIND_REFUSED,
             number: number as u64,
             place: place as u64,
             wait: 0.0,

@@ -19,23 +19,23 @@ fn table(
     rates: &[u64],
     at: usize,
     buffers: &mut [u64],
-    fulls: &mut [u64],
+    fullnesses: &mut [u64],
 ) -> PlannerJudgement
-    ensures { λ r. ⌜ ExportedTable (recording (now (sizes .entry)) (now (ticks .entry)) ts nu) (now (rates .entry)) at (now (buffers .entry)) (now (fulls .entry)) r (now (buffers .exit)) (now (fulls .exit)) ⌝ }
+    ensures { λ r. ⌜ ExportedTable (recording (now (sizes .entry)) (now (ticks .entry)) ts nu) (now (rates .entry)) at (now (buffers .entry)) (now (fullnesses .entry)) r (now (buffers .exit)) (now (fullnesses .exit)) ⌝ }
 {
-    planner::figures::planner_table(sizes, ticks, ts, nu, rates, at, buffers, fulls)
+    planner::figures::planner_table(sizes, ticks, ts, nu, rates, at, buffers, fullnesses)
 }
 
 fn look_up(
     rates: &[u64],
     buffers: &[u64],
-    fulls: &[u64],
+    fullnesses: &[u64],
     ts: u64,
     nu: u64,
     span: u64,
     rate: u64,
 ) -> PlannerBucket
-    ensures { λ r. ⌜ ExportedLookup (tableOf (now (rates .entry)) (now (buffers .entry)) (now (fulls .entry)) ts nu span) rate r ⌝ }
+    ensures { λ r. ⌜ ExportedLookup (tableOf (now (rates .entry)) (now (buffers .entry)) (now (fullnesses .entry)) ts nu span) rate r ⌝ }
 {
-    planner::figures::planner_look_up(rates, buffers, fulls, ts, nu, span, rate)
+    planner::figures::planner_look_up(rates, buffers, fullnesses, ts, nu, span, rate)
 }

@@ -5,3 +5,4 @@ mod recordings;
 mod records;
 mod seconds;
 mod sheets;
+mod version;

@@ -1,11 +1,13 @@
 // The promises on parameter records.
 use answers::recordings::PlannerJudgement;
 use answers::recordings::PlannerVerdict;
+use answers::records::PlannerLength;
+use answers::records::PlannerParamsRead;
 use answers::records::PlannerPosition;
-use answers::records::PlannerRead;
+use answers::records::PlannerRow;
 use params::Params;
 ghost use Rattle.model.specs.Recording.{recording};
-ghost use Rattle.planner.specs.Records.{ExportedRecord, ExportedRead, ExportedWrite, ExportedRow};
+ghost use Rattle.planner.specs.Records.{ExportedRecord, ExportedLength, ExportedParamsRow, ExportedRead, ExportedWrite, ExportedRow};
 
 fn judge_params(params: Params) -> PlannerJudgement
     ensures { λ r. ⌜ ExportedRecord params r ⌝ }
@@ -13,7 +15,19 @@ fn judge_params(params: Params) -> PlannerJudgement
     planner::records::planner_judge_params(params)
 }
 
-fn read_params(bytes: &[u8], start: u64) -> PlannerRead
+fn params_length(params: Params) -> PlannerLength
+    ensures { λ r. ⌜ ExportedLength params r ⌝ }
+{
+    planner::records::planner_params_length(params)
+}
+
+fn params_row(params: Params, row: usize) -> PlannerRow
+    ensures { λ r. ⌜ ExportedParamsRow params row r ⌝ }
+{
+    planner::records::planner_params_row(params, row)
+}
+
+fn read_params(bytes: &[u8], start: u64) -> PlannerParamsRead
     ensures { λ r. ⌜ ExportedRead (now (bytes .entry)) start r ⌝ }
 {
     planner::records::planner_read_params(bytes, start)

@@ -1,5 +1,5 @@
 // The promises on seconds and the panel.
-use answers::seconds::PlannerReading;
+use answers::seconds::PlannerPanelReading;
 use answers::seconds::PlannerSeconds;
 ghost use Rattle.model.specs.Arrival.{bucket};
 ghost use Rattle.planner.specs.Seconds.{ExportedSeconds, ExportedPanel};
@@ -10,7 +10,7 @@ fn seconds(rate: u64, buffer: u64, fullness: u64) -> PlannerSeconds
     planner::seconds::planner_seconds(rate, buffer, fullness)
 }
 
-fn panel(rate: u64, buffer: u64, fullness: u64, limit: f64) -> PlannerReading
+fn panel(rate: u64, buffer: u64, fullness: u64, limit: f64) -> PlannerPanelReading
     ensures { λ r. ⌜ ExportedPanel (bucket rate buffer fullness) limit r ⌝ }
 {
     planner::seconds::planner_panel(rate, buffer, fullness, limit)

@@ -9,8 +9,8 @@ fn open_sheet(bytes: &[u8], sizes: &mut [u64], ticks: &mut [u64], rates: &mut [u
     planner::sheets::planner_open_sheet(bytes, sizes, ticks, rates)
 }
 
-fn print_sheet(bytes: &[u8], text: &mut [u8]) -> PlannerText
+fn sheet_text(bytes: &[u8], text: &mut [u8]) -> PlannerText
     ensures { λ r. ⌜ ExportedPrint (now (bytes .entry)) (now (text .entry)) r (now (text .exit)) ⌝ }
 {
-    planner::sheets::planner_print_sheet(bytes, text)
+    planner::sheets::planner_sheet_text(bytes, text)
 }

@@ -9,11 +9,13 @@
 --     readingPlace        document 01's place of a fault in reading
 --     readOutcome         reading: the next position or a refusal, and the record
 --     writeOutcome        writing: the next position or a refusal, and the bytes afterwards
+--     lengthOutcome       how many bits writing it takes, or a refusal
 --     rowRate, rowSize    rate and size of a row
+--     Row, paramsRowOutcome    both, or a refusal
 -- Subtraction stops at 0 for a count of 0 alone, whose record is refused before its values count. A verdict asked of a row:
 -- row_verdict/specs/RowVerdict.antt. Laws: proofs/FieldsLaws.antt, proofs/BackLaws.antt. Assumes nothing.
 use Prim.Native.Nat.{ℕ, zero, suc, _+_, _-_, _*_, _^_}
-use mathlib.Core.Bool.{cond}
+use mathlib.Core.Bool.{cond, not}
 use mathlib.Core.List.{List, [], _∷_, _++_}
 use lib.Dec.{ltb}
 use lib.ListN.{length, getD}
@@ -137,6 +139,9 @@ writeOutcome params bytes p =
     let j : Judgement = first (writeFaults params bytes p) in
     record { answer = answerWith j (p + length (paramsBits params)); bytes = bytesIf j bytes p (paramsBits params) }
 
+abbrev pub lengthOutcome : Params → Answer ℕ
+lengthOutcome params = answerWith (paramsJudged params) (length (paramsBits params))
+
 -- "Rate = (value+1) x 2^(6+scale)"
 abbrev pub rowRate : Params → (row : ℕ) → ℕ
 rowRate p row = (getD (p .bit-rate-value-minus1) row 0 + 1) * 2 ^ (rateShift + p .bit-rate-scale)
@@ -144,3 +149,14 @@ rowRate p row = (getD (p .bit-rate-value-minus1) row 0 + 1) * 2 ^ (rateShift + p
 -- "size = (value+1) x 2^(4+scale)"
 abbrev pub rowSize : Params → (row : ℕ) → ℕ
 rowSize p row = (getD (p .cpb-size-value-minus1) row 0 + 1) * 2 ^ (sizeShift + p .cpb-size-scale)
+
+pub record Row : Type 0 where
+  pub rate : ℕ
+  pub size : ℕ
+
+-- the record is judged first, then the row number: 6 at 0 if there is no such row
+abbrev pub paramsRowFaults : Params → (row : ℕ) → List Judgement
+paramsRowFaults p row = paramsJudged p ∷ refuseIf (not (ltb row (p .cpb-cnt))) refusal.rate 0 ∷ []
+
+abbrev pub paramsRowOutcome : Params → (row : ℕ) → Answer Row
+paramsRowOutcome p row = answerWith (first (paramsRowFaults p row)) (record { rate = rowRate p row; size = rowSize p row })

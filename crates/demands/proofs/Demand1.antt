@@ -1,7 +1,7 @@
 -- Demand 1 of each exported operation: a refusal in its outcome is a refusal in its struct, with zeros and with every lent list as it
 -- was. Propositions: specs/Demand1.antt.
 --     demand1-judge, demand1-verdict, demand1-schedule, demand1-least, demand1-table, demand1-lookup, demand1-seconds, demand1-panel,
---     demand1-record, demand1-read, demand1-write, demand1-row, demand1-open, demand1-print
+--     demand1-record, demand1-length, demand1-params-row, demand1-read, demand1-write, demand1-row, demand1-open, demand1-print
 -- Assumes nothing.
 use Prim.Native.Nat.{ℕ, _≤_}
 use native.Mathlib.Omega.{arith}
@@ -17,18 +17,18 @@ use Rattle.coding.specs.Codes.{bitsOf}
 use Rattle.model.specs.Panel.{within, over}
 use Rattle.coding.specs.Fields.{FieldsRead as FieldsReading, done, short, atFault}
 use Rattle.coding.specs.Params as params
-use Rattle.layout.specs.Sheet.{sheetSizes, sheetTicks, sheetRates, openFaults, headOf, sheetText}
+use Rattle.layout.specs.Sheet.{sheetSizes, sheetTicks, sheetRates, openFaults, headOf, sheetText, outputOf}
 use Rattle.params.specs.Outcome.{paramsOf}
 use Rattle.answers.specs.Recordings.{judgementAnswer, verdictAnswer}
 use Rattle.answers.specs.Figures.{bucketAnswer}
 use Rattle.answers.specs.Seconds.{secondsAnswer, readingAnswer}
-use Rattle.answers.specs.Records.{positionAnswer}
-use Rattle.answers.specs.Sheets.{sheetAnswer, textAnswer}
+use Rattle.answers.specs.Records.{positionAnswer, lengthAnswer, rowAnswer}
+use Rattle.answers.specs.Sheets.{sheetAnswer, textBy, textAnswer}
 use Rattle.answers.specs.declared.recordings.PlannerJudgement.{PlannerJudgement}
 use Rattle.answers.specs.declared.recordings.PlannerVerdict.{PlannerVerdict}
 use Rattle.answers.specs.declared.figures.PlannerBucket.{PlannerBucket}
 use Rattle.answers.specs.declared.records.PlannerPosition.{PlannerPosition}
-use Rattle.demands.specs.Demand1.{Told, Demand1Judge, Demand1Verdict, Demand1Schedule, Demand1Least, Demand1Table, Demand1Lookup, Demand1Seconds, Demand1Panel, Demand1Record, Demand1Read, Demand1Write, Demand1Row, Demand1Open, Demand1Print}
+use Rattle.demands.specs.Demand1.{Told, Demand1Judge, Demand1Verdict, Demand1Schedule, Demand1Least, Demand1Table, Demand1Lookup, Demand1Seconds, Demand1Panel, Demand1Record, Demand1Length, Demand1ParamsRow, Demand1Read, Demand1Write, Demand1Row, Demand1Open, Demand1Print}
 
 -- one law for every operation: where its struct r is f of its outcome a, and f says "answered" and "refused" as it should
 told : {A S : Type 0} (kind number place : S → ℕ) (f : Answer A → S) {a : Answer A} {r : S} {Clear : Type 0} → r ≡ f a
@@ -133,6 +133,16 @@ toldPosition p clear =
     told (λ r. r .kind) (λ r. r .number) (λ r. r .place) positionAnswer p (λ x. (lit≤ tt, refl, refl)) (λ n i. (refl, refl, refl))
     (λ n i e q. (ap (λ r. r .next) q, clear n i e))
 
+pub demand1-length : Demand1Length
+demand1-length q r p =
+    told (λ r. r .kind) (λ r. r .number) (λ r. r .place) lengthAnswer p (λ x. (lit≤ tt, refl, refl)) (λ n i. (refl, refl, refl))
+    (λ n i e q. ap (λ r. r .bits) q)
+
+pub demand1-params-row : Demand1ParamsRow
+demand1-params-row q row r p =
+    told (λ r. r .kind) (λ r. r .number) (λ r. r .place) rowAnswer p (λ x. (lit≤ tt, refl, refl)) (λ n i. (refl, refl, refl))
+    (λ n i e q. (ap (λ r. r .rate) q, ap (λ r. r .size) q))
+
 pub demand1-read : Demand1Read
 demand1-read bytes start r p = toldPosition (p .0) (λ n i e. p .1 ∙ zeroed (params.paramsReading (bitsOf bytes) start) e)
 
@@ -157,8 +167,14 @@ demand1-open bytes l m o r sizes ticks rates p =
 
 pub demand1-print : Demand1Print
 demand1-print bytes l r text p =
-    told (λ r. r .kind) (λ r. r .number) (λ r. r .place) textAnswer (p .0) (λ x. (lit≤ tt, refl, refl)) (λ n i. (refl, refl, refl))
+    told (λ r. r .kind) (λ r. r .number) (λ r. r .place) textAnswer (p .0) (λ o. output (o .judged) (o .end)) (λ n i. (refl, refl, refl))
     (λ n i e q. (
       ap (λ r. r .length) q,
-      p .1 ∙ kept (roomCheck l 0 (length (sheetText bytes))) (length (sheetText bytes)) l 0 (sheetText bytes) e,
+      ap (λ r. r .«sheet_number») q,
+      ap (λ r. r .«sheet_place») q,
+      p .1 ∙ kept (roomCheck l 0 (length (sheetText bytes))) (outputOf bytes) l 0 (sheetText bytes) e,
     ))
+  where
+    output : (j : Judgement) (end : ℕ) → (1 ≤ textBy j end .kind) × (textBy j end .number ≡ 0) × (textBy j end .place ≡ 0)
+    output (given tt) end = (lit≤ tt, refl, refl)
+    output (refused n i) end = (lit≤ tt, refl, refl)

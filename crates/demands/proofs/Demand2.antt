@@ -2,6 +2,7 @@
 --     demand2-answers    the verdict on a bucket is "holds" exactly when both figures are at least the planner's own least
 --     demand2-schedule   a schedule's verdict that is no refusal is the verdict on its bucket
 --     demand2-row        and so is a variable row's
+--     demand2-params-row    on the bucket with the rate and the size that `params_row` gives
 -- Assumes nothing.
 use Prim.Native.Nat.{ℕ}
 use mathlib.Core.Path.{_≡_, refl, sym, ap, _∙_}
@@ -15,7 +16,10 @@ use Rattle.model.specs.Arrival as arrival
 use Rattle.model.specs.Arrival.{Bucket, bucket, holds, verdictOf}
 use Rattle.model.specs.Faults.{badBucket, recordingFaults, secondsFaults, verdictFaults, scheduleFaults}
 use Rattle.row_verdict.specs.RowVerdict.{rowBucket, rowVerdictFaults}
+use Rattle.coding.specs.Params.{Row, rowRate, rowSize, paramsRowFaults}
 use Rattle.params.specs.Outcome.{paramsOf}
+use Rattle.params.specs.declared.Params.{Params}
+use Rattle.row_verdict.specs.Promises.{RowPromise}
 use Rattle.terms.proofs.NumbersLaws.{or-false, outside-false}
 use Rattle.terms.proofs.AnswersLaws.{refuseIf-passed, first-passed, lowest-each, lowest-passed, answer-given, answer-passed}
 use Rattle.model.proofs.FaultsLaws.{judgeOutcome-within, within-recorded}
@@ -26,7 +30,7 @@ use Rattle.schedule.specs.declared.Verdict.the-variants as verdict
 use Rattle.schedule.proofs.Unique.{answerOf-one}
 use Rattle.least.specs.Promises.{LeastPromise}
 use Rattle.least.specs.declared.Figures.the-variants as figures
-use Rattle.demands.specs.Demand2.{Exactly, Judged, Demand2Answers, Demand2Schedule, Demand2Row}
+use Rattle.demands.specs.Demand2.{Exactly, Judged, Demand2Answers, Demand2Schedule, Demand2Row, Demand2ParamsRow}
 use Rattle.demands.proofs.Promised.{least-promised, verdict-promised}
 
 -- the code's "holds" is the definition's
@@ -67,10 +71,26 @@ demand2-schedule k rate b f at leastB leastF l m starts ends v p judged least =
     let (ok, said) = judged-passed (lowest (scheduleFaults k u at l m)) (verdictOf k u) v judged (ap (λ o. o .answer) p) in
     same-sentence k rate b f leastB leastF v (lowest-each (verdictFaults k u) _ ok .0) said least
 
-pub demand2-row : Demand2Row
-demand2-row k params row f leastB leastF v p variable judged least =
+-- a row's verdict that is no refusal is the verdict on the row's bucket
+row-said : (k : Recording) (params : Params) (row f : ℕ) (v : Verdict) → RowPromise k params row f v → Judged v
+    → let u = rowBucket (paramsOf params) row f in (lowest (verdictFaults k u) ≡ passed) × (answerOf v ≡ given (verdictOf k u))
+row-said k params row f v p judged =
     let q = paramsOf params in
     let u = rowBucket q row f in
     let (ok, said) = judged-passed (first (rowVerdictFaults k q row f)) (verdictOf k u) v judged p in
     let (_, (_, (rest, _))) = first-passed (rowVerdictFaults k q row f) .0 ok in
-    same-sentence k (u .rate) (u .buffer) f leastB leastF v (lowest-each (verdictFaults k u) _ rest .0) said least
+    (lowest-each (verdictFaults k u) _ rest .0, said)
+
+pub demand2-row : Demand2Row
+demand2-row k params row f leastB leastF v p variable judged least =
+    let u = rowBucket (paramsOf params) row f in
+    let (ok, said) = row-said k params row f v p judged in
+    same-sentence k (u .rate) (u .buffer) f leastB leastF v ok said least
+
+pub demand2-params-row : Demand2ParamsRow
+demand2-params-row k params row f rate size v p judged figures =
+    let q = paramsOf params in
+    let u = rowBucket q row f in
+    let (ok, said) = row-said k params row f v p judged in
+    let (_, same) = answer-passed (first (paramsRowFaults q row)) (record { rate = rowRate q row; size = rowSize q row }) (record { rate = rate; size = size }) (sym figures) in
+    rw (← ap (λ (t : Row). t .rate) same, ← ap (λ (t : Row). t .size) same) (said ∙ sym (answer-given (verdictOf k u) ok))

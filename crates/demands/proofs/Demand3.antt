@@ -60,7 +60,7 @@ blend-limit ra rb xa xb r m apart lo hi ha hb =
 record LookupSaid (w : Table) (r b f : ℕ) : Type 0 where
   rates : RatesWithin (w .rates)
   buffer : b ≡ figureAt (axisOf w) (w .buffers) r
-  fullness : f ≡ figureAt (axisOf w) (w .fulls) r
+  fullness : f ≡ figureAt (axisOf w) (w .fullnesses) r
 
 lookup-said : (w : Table) (r b f : ℕ) → LookupPromise w r (found.Bucket b f) → LookupSaid w r b f
 lookup-said w r b f p =
@@ -97,7 +97,7 @@ demand3-answers k w i r b f h rowA rowB lo hi p =
     let rb = getD (w .rates) (suc i) 0 in
     let apart : ra < rb = rates .rising i h in
     let isB : b ≡ between (leastBuffer k) ra rb r = said .buffer ∙ figure-between (axisOf w) (w .buffers) i r rates h lo hi ∙ rw (a .buffer, c .buffer) in
-    let isF : f ≡ between (leastFullness k) ra rb r = said .fullness ∙ figure-between (axisOf w) (w .fulls) i r rates h lo hi ∙ rw (a .fullness, c .fullness) in
+    let isF : f ≡ between (leastFullness k) ra rb r = said .fullness ∙ figure-between (axisOf w) (w .fullnesses) i r rates h lo hi ∙ rw (a .fullness, c .fullness) in
     let (full, enoughB, enoughF, held) = demand3-holds k rec ra rb r apart lo hi in
     let (tightB, tightF) = demand3-excess k rec ra rb r apart lo hi in
     let limit : (rate : ℕ) → leastBuffer k rate ≤ bucketMax = λ rate. leastBuffer-limit rate rec (within .few) (within .small) in
@@ -139,15 +139,15 @@ module _ (k : Recording) (rates : List ℕ) (judged : judgeOutcome k ≡ passed)
       )
 
 pub demand3-table : Demand3Table
-demand3-table k rates l m buffers fulls hl hm p i r h lo hi a q =
-    let said = table-promised k rates 0 l m buffers fulls p in
+demand3-table k rates l m buffers fullnesses hl hm p i r h lo hi a q =
+    let said = table-promised k rates 0 l m buffers fullnesses p in
     let rates-ok = rateList-within rates .0 (said .listed) in
     let rated : badRate r ≡ false = outside-false 1 rateMax r .1 (le-trans (rates-ok .some i (le-of-lt h)) lo, le-trans hi (rates-ok .small (suc i) h)) in
     let bs : buffers ≡ map (leastBuffer k) rates = said .buffer ∙ written-all l _ (length-map rates (leastBuffer k) ∙ sym hl) in
-    let fs : fulls ≡ map (leastFullness k) rates = said .fullness ∙ written-all m _ (length-map rates (leastFullness k) ∙ sym hm) in
+    let fs : fullnesses ≡ map (leastFullness k) rates = said .fullness ∙ written-all m _ (length-map rates (leastFullness k) ∙ sym hm) in
     let w : Table = t k rates (said .judged) (said .counted) (said .listed) in
     let row = figures-row k rates (said .judged) (said .listed) in
     let gives = answer-given (lookupOf w r) (lookup-passed k rates (said .judged) (said .counted) (said .listed) r rated) in
     let b = figureAt (axisOf w) (w .buffers) r in
-    let f = figureAt (axisOf w) (w .fulls) r in
+    let f = figureAt (axisOf w) (w .fullnesses) r in
     (b, f, foundOf-one r a (found.Bucket b f) (rw (bs, fs) at q ∙ gives), demand3-answers k w i r b f h (row i (le-of-lt h)) (row (suc i) h) lo hi (sym gives))

@@ -23,7 +23,9 @@ use Rattle.sheet.specs.declared.Opened.the-variants as opened
 use Rattle.sheet.specs.Outcome.{headOf}
 use Rattle.sheet.specs.Promises.{OpenPromise}
 use Rattle.sheet.proofs.OpenLaws.{rooms, head-pictures, head-rates, recording-read, rates-read}
+use Rattle.print.specs.declared.Output.{Output}
 use Rattle.print.specs.declared.Printed.the-variants as printed
+use Rattle.print.specs.Outcome.{outputOf}
 use Rattle.print.specs.Promises.{PrintPromise}
 use Rattle.print.proofs.PrintLaws.{front}
 use Rattle.demands.specs.Demand2.{Demand2Table, Demand2Print}
@@ -36,8 +38,8 @@ row-at : (rates : List ℕ) (at : ℕ) (l : List ℕ) (x : ℕ → ℕ) → at +
 row-at rates at l x room i h = written-at l at (map x rates) i (rw (length-map rates x) room) (rw (length-map rates x) h)
 
 pub demand2-table : Demand2Table
-demand2-table k rates at l m buffers fulls p i h =
-    let said = table-promised k rates at l m buffers fulls p in
+demand2-table k rates at l m buffers fullnesses p i h =
+    let said = table-promised k rates at l m buffers fullnesses p in
     demand2-least k _ _ _
     (rw (said .buffer, said .fullness, row-at rates at l (leastBuffer k) (said .roomB) i h, row-at rates at m (leastFullness k) (said .roomF) i h)
     (figures-row k rates (said .judged) (said .listed) i h))
@@ -67,20 +69,20 @@ sheet-promised bytes l m o sizes ticks rates head p =
     rw (whole, listed)
     (sheet-said bytes (orElse-passed (first (sheetFaults bytes)) (first room) .0 (sym (first-append (sheetFaults bytes) room) ∙ ok) .0))
 
-pub text-promised : (bytes before text : List ℕ) (n : ℕ) → PrintPromise bytes before (printed.Text n) text → take n text ≡ sheetText bytes
-text-promised bytes before text n p =
-    let size = length (sheetText bytes) in
-    let (ok, count) = answer-passed (roomCheck before 0 size) size n (sym (ap (λ (t : sheet.Printed). t .answer) p)) in
-    written-front before text (sheetText bytes) n (ap (λ (t : sheet.Printed). t .text) p ∙ rw ok) count
+pub text-promised : (bytes before text : List ℕ) (output : Output) → PrintPromise bytes before (printed.Text output) text → take (output .end) text ≡ sheetText bytes
+text-promised bytes before text output p =
+    let room = roomCheck before 0 (length (sheetText bytes)) in
+    let (ok, same) = answer-passed room (sheet.outputOf bytes) (outputOf output) (sym (ap (λ (t : sheet.Printed). t .answer) p)) in
+    written-front before text (sheetText bytes) (output .end) (ap (λ (t : sheet.Printed). t .text) p ∙ rw ok) (ap (λ (t : sheet.Output). t .end) same)
 
 pub demand2-print : Demand2Print
-demand2-print bytes l m o sizes ticks rates before text head n p q =
+demand2-print bytes l m o sizes ticks rates before text head output p q =
     let said = sheet-promised bytes l m o sizes ticks rates head p in
     let k = front sizes ticks head in
     let r = take (head .rates) rates in
     record {
       buffers = map (leastBuffer k) r;
-      fulls = map (leastFullness k) r;
-      lines = text-promised bytes before text n q ∙ said .text;
+      fullnesses = map (leastFullness k) r;
+      lines = text-promised bytes before text output q ∙ said .text;
       rows = λ i h. demand2-least k _ _ _ (figures-row k r (said .judged) (said .listed) i h);
     }

@@ -64,18 +64,18 @@ figures-row k rates judged listed i h =
     (least-promise k (getD rates i 0) judged (outside-false 1 rateMax _ .1 (r .some i h, r .small i h)))
 
 -- what a table that was written says
-pub record TableSaid (k : Recording) (rates : List ℕ) (at : ℕ) (l m buffers fulls : List ℕ) : Type 0 where
+pub record TableSaid (k : Recording) (rates : List ℕ) (at : ℕ) (l m buffers fullnesses : List ℕ) : Type 0 where
   pub judged : judgeOutcome k ≡ passed
   pub counted : rateCountCheck rates ≡ passed
   pub listed : rateListCheck rates ≡ passed
   pub roomB : at + length rates ≤ length l
   pub roomF : at + length rates ≤ length m
   pub buffer : buffers ≡ written l at (map (leastBuffer k) rates)
-  pub fullness : fulls ≡ written m at (map (leastFullness k) rates)
+  pub fullness : fullnesses ≡ written m at (map (leastFullness k) rates)
 
-pub table-promised : (k : Recording) (rates : List ℕ) (at : ℕ) (l m buffers fulls : List ℕ) → TablePromise k rates at l m tabled.Written buffers fulls
-    → TableSaid k rates at l m buffers fulls
-table-promised k rates at l m buffers fulls p =
+pub table-promised : (k : Recording) (rates : List ℕ) (at : ℕ) (l m buffers fullnesses : List ℕ) → TablePromise k rates at l m tabled.Written buffers fullnesses
+    → TableSaid k rates at l m buffers fullnesses
+table-promised k rates at l m buffers fullnesses p =
     let room = roomFaults l m at (length rates) in
     let ok : lowest (tableFaults k rates at l m) ≡ passed = sym (ap (λ (t : outcomes.Tabled). t .answer) p) in
     let (judged, rest) = lowest-each (recordingFaults k) (ratesFaults rates ++ room) ok in
@@ -89,7 +89,7 @@ table-promised k rates at l m buffers fulls p =
       roomB = roomCheck-passed l at (length rates) .0 (of-room .0);
       roomF = roomCheck-passed m at (length rates) .0 (of-room .1 .0);
       buffer = ap (λ (t : outcomes.Tabled). t .buffers) p ∙ rw ok;
-      fullness = ap (λ (t : outcomes.Tabled). t .fulls) p ∙ rw ok;
+      fullness = ap (λ (t : outcomes.Tabled). t .fullnesses) p ∙ rw ok;
     }
 
 pub a-bucket : (b f : ℕ) → b ≤ bucketMax → 1 ≤ f → f ≤ b → badBucket b f ≡ false

@@ -1,7 +1,7 @@
 -- Demand 1 about the planner's own answers, as propositions. Proved in proofs/Demand1.antt.
 --     Told    what a struct says is what an outcome says: a refusal its number and place, with zeros and untouched lists
 --     Demand1Judge, Demand1Verdict, Demand1Schedule, Demand1Least, Demand1Table, Demand1Lookup, Demand1Seconds, Demand1Panel,
---     Demand1Record, Demand1Read, Demand1Write, Demand1Row, Demand1Open, Demand1Print    so does each exported operation, whatever it is handed
+--     Demand1Record, Demand1Length, Demand1ParamsRow, Demand1Read, Demand1Write, Demand1Row, Demand1Open, Demand1Print    so does each exported operation, whatever it is handed
 -- Assumes nothing.
 use Prim.Native.Nat.{ℕ, _≤_}
 use mathlib.Core.Path.{_≡_}
@@ -13,7 +13,7 @@ use Rattle.model.specs.Arrival.{Bucket}
 use Rattle.model.specs.Lookup.{Table}
 use Rattle.model.specs.Outcomes.{judgeOutcome, verdictOutcome, scheduleOutcome, leastOutcome, tableOutcome, lookupOutcome}
 use Rattle.model.specs.Panel.{zeroSeconds, secondsOutcome, panelOutcome}
-use Rattle.coding.specs.Params.{zeroParams, paramsJudged, readOutcome, writeOutcome}
+use Rattle.coding.specs.Params.{zeroParams, paramsJudged, readOutcome, writeOutcome, lengthOutcome, paramsRowOutcome}
 use Rattle.row_verdict.specs.RowVerdict.{rowVerdictOutcome}
 use Rattle.layout.specs.Sheet.{openOutcome, printOutcome}
 use Rattle.params.specs.Outcome.{paramsOf}
@@ -22,15 +22,17 @@ use Rattle.answers.specs.declared.recordings.PlannerJudgement.{PlannerJudgement
 use Rattle.answers.specs.declared.recordings.PlannerVerdict.{PlannerVerdict}
 use Rattle.answers.specs.declared.figures.PlannerBucket.{PlannerBucket}
 use Rattle.answers.specs.declared.seconds.PlannerSeconds.{PlannerSeconds}
-use Rattle.answers.specs.declared.seconds.PlannerReading.{PlannerReading}
-use Rattle.answers.specs.declared.records.PlannerRead.{PlannerRead}
+use Rattle.answers.specs.declared.seconds.PlannerPanelReading.{PlannerPanelReading}
+use Rattle.answers.specs.declared.records.PlannerParamsRead.{PlannerParamsRead}
 use Rattle.answers.specs.declared.records.PlannerPosition.{PlannerPosition}
+use Rattle.answers.specs.declared.records.PlannerLength.{PlannerLength}
+use Rattle.answers.specs.declared.records.PlannerRow.{PlannerRow}
 use Rattle.answers.specs.declared.sheets.PlannerSheet.{PlannerSheet}
 use Rattle.answers.specs.declared.sheets.PlannerText.{PlannerText}
 use Rattle.planner.specs.Recordings.{ExportedJudge, ExportedVerdict, ExportedSchedule}
 use Rattle.planner.specs.Figures.{ExportedLeast, ExportedTable, ExportedLookup}
 use Rattle.planner.specs.Seconds.{ExportedSeconds, ExportedPanel}
-use Rattle.planner.specs.Records.{ExportedRecord, ExportedRead, ExportedWrite, ExportedRow}
+use Rattle.planner.specs.Records.{ExportedRecord, ExportedLength, ExportedParamsRow, ExportedRead, ExportedWrite, ExportedRow}
 use Rattle.planner.specs.Sheets.{ExportedOpen, ExportedPrint}
 
 -- "Any bytes, any lists, any numbers get an answer." "a refusal gives its number and place, zeros for results, and writes nothing
@@ -59,9 +61,9 @@ Demand1Least =
 
 abbrev pub Demand1Table : Type 0
 Demand1Table =
-    (k : Recording) (rates : List ℕ) (at : ℕ) (l m : List ℕ) (r : PlannerJudgement) (buffers fulls : List ℕ)
-    → ExportedTable k rates at l m r buffers fulls
-    → Told (tableOutcome k rates at l m .answer) (r .kind) (r .number) (r .place) ((buffers ≡ l) × (fulls ≡ m))
+    (k : Recording) (rates : List ℕ) (at : ℕ) (l m : List ℕ) (r : PlannerJudgement) (buffers fullnesses : List ℕ)
+    → ExportedTable k rates at l m r buffers fullnesses
+    → Told (tableOutcome k rates at l m .answer) (r .kind) (r .number) (r .place) ((buffers ≡ l) × (fullnesses ≡ m))
 
 abbrev pub Demand1Lookup : Type 0
 Demand1Lookup =
@@ -75,16 +77,25 @@ Demand1Seconds =
 
 abbrev pub Demand1Panel : Type 0
 Demand1Panel =
-    (u : Bucket) (limit : Float) (r : PlannerReading) → ExportedPanel u limit r
+    (u : Bucket) (limit : Float) (r : PlannerPanelReading) → ExportedPanel u limit r
     → Told (panelOutcome u limit) (r .kind) (r .number) (r .place) ((r .wait ≡ zeroSeconds) × (r .limit ≡ zeroSeconds))
 
 abbrev pub Demand1Record : Type 0
 Demand1Record =
     (p : Params) (r : PlannerJudgement) → ExportedRecord p r → Told (paramsJudged (paramsOf p)) (r .kind) (r .number) (r .place) (Unit {0})
 
+abbrev pub Demand1Length : Type 0
+Demand1Length =
+    (p : Params) (r : PlannerLength) → ExportedLength p r → Told (lengthOutcome (paramsOf p)) (r .kind) (r .number) (r .place) (r .bits ≡ 0)
+
+abbrev pub Demand1ParamsRow : Type 0
+Demand1ParamsRow =
+    (p : Params) (row : ℕ) (r : PlannerRow) → ExportedParamsRow p row r
+    → Told (paramsRowOutcome (paramsOf p) row) (r .kind) (r .number) (r .place) ((r .rate ≡ 0) × (r .size ≡ 0))
+
 abbrev pub Demand1Read : Type 0
 Demand1Read =
-    (bytes : List ℕ) (start : ℕ) (r : PlannerRead) → ExportedRead bytes start r
+    (bytes : List ℕ) (start : ℕ) (r : PlannerParamsRead) → ExportedRead bytes start r
     → Told (readOutcome bytes start .answer) (r .kind) (r .number) (r .place) ((r .next ≡ 0) × (paramsOf (r .params) ≡ zeroParams))
 
 abbrev pub Demand1Write : Type 0
@@ -106,4 +117,4 @@ Demand1Open =
 abbrev pub Demand1Print : Type 0
 Demand1Print =
     (bytes l : List ℕ) (r : PlannerText) (text : List ℕ) → ExportedPrint bytes l r text
-    → Told (printOutcome bytes l .answer) (r .kind) (r .number) (r .place) ((r .length ≡ 0) × (text ≡ l))
+    → Told (printOutcome bytes l .answer) (r .kind) (r .number) (r .place) ((r .length ≡ 0) × (r .«sheet_number» ≡ 0) × (r .«sheet_place» ≡ 0) × (text ≡ l))

@@ -4,6 +4,7 @@
 --     Demand2Answers    the planner's verdict on a bucket is "holds" exactly when both figures are at least the planner's own least
 --     Demand2Schedule   so is the verdict that a schedule answers
 --     Demand2Row        and the verdict on a variable row
+--     Demand2ParamsRow  whose bucket has the rate and the size that `params_row` gives
 --     LateOrNone        late at some picture, or no bucket: refusal 7
 --     LeastBits         what `least` gives: a bucket that gets "holds", and with any less of either figure is late or no bucket
 --     Demand2Least      so is the pair that `least` gives
@@ -12,6 +13,7 @@
 --     Demand2Print      so is what is printed of a sheet that opens
 --     Demand2Written    what the writer wrote, the reader reads again: the record back, and the same next position
 --     Demand2Read       what the reader read, the writer writes again: the bytes as they are, and the same next position
+--     Demand2Length     what the writer wrote is as long as `length_of` gives
 -- Assumes nothing.
 use Prim.Native.Nat.{ℕ, _+_, _≤_, _<_}
 use mathlib.Core.Path.{_≡_}
@@ -38,12 +40,15 @@ use Rattle.params.specs.declared.Position.{Position}
 use Rattle.params.specs.declared.Position.the-variants as position
 use Rattle.params_read.specs.Promises.{ReadPromise}
 use Rattle.params_read.specs.declared.ParamsRead.{ParamsRead}
-use Rattle.params_write.specs.Promises.{WritePromise}
-use Rattle.row_verdict.specs.Promises.{RowPromise}
+use Rattle.params_write.specs.Promises.{LengthPromise, WritePromise}
+use Rattle.params_write.specs.declared.Length.the-variants as length-answer
+use Rattle.row_verdict.specs.Promises.{ParamsRowPromise, RowPromise}
+use Rattle.row_verdict.specs.declared.ParamsRow.the-variants as params-row
 use Rattle.sheet.specs.Promises.{OpenPromise}
 use Rattle.sheet.specs.declared.Head.{Head}
 use Rattle.sheet.specs.declared.Opened.the-variants as opened
 use Rattle.print.specs.Promises.{PrintPromise}
+use Rattle.print.specs.declared.Output.{Output}
 use Rattle.print.specs.declared.Printed.the-variants as printed
 
 -- "A bucket with fullness no larger than its buffer is judged to hold the recording exactly when both are at least those two figures"
@@ -72,6 +77,12 @@ Demand2Row =
     → RowPromise k params row f v → getD (paramsOf params .cbr-flag) row 0 ≡ 0 → Judged v
     → LeastPromise k (rowRate (paramsOf params) row) (figures.Least leastB leastF) → Exactly v (rowSize (paramsOf params) row) f leastB leastF
 
+-- a row of a record that is judged has the verdict of the bucket with the rate and the size that the planner gives for the row
+abbrev pub Demand2ParamsRow : Type 0
+Demand2ParamsRow =
+    (k : Recording) (params : Params) (row f rate size : ℕ) (v : Verdict) → RowPromise k params row f v → Judged v
+    → ParamsRowPromise params row (params-row.Row rate size) → VerdictPromise k (bucket rate size f) v
+
 -- "one bit less must be late or no bucket"
 abbrev pub LateOrNone : Verdict → Type 0
 LateOrNone v = ((picture : ℕ) × (units : ℕ) × (v ≡ verdict.Late picture units)) ⊎ (v ≡ verdict.Refused refusal.bucket 0)
@@ -89,21 +100,21 @@ Demand2Least = (k : Recording) (rate b f : ℕ) → LeastPromise k rate (figures
 
 abbrev pub Demand2Table : Type 0
 Demand2Table =
-    (k : Recording) (rates : List ℕ) (at : ℕ) (l m buffers fulls : List ℕ) → TablePromise k rates at l m tabled.Written buffers fulls
-    → (i : ℕ) → i < length rates → LeastBits k (getD rates i 0) (getD buffers (at + i) 0) (getD fulls (at + i) 0)
+    (k : Recording) (rates : List ℕ) (at : ℕ) (l m buffers fullnesses : List ℕ) → TablePromise k rates at l m tabled.Written buffers fullnesses
+    → (i : ℕ) → i < length rates → LeastBits k (getD rates i 0) (getD buffers (at + i) 0) (getD fullnesses (at + i) 0)
 
 pub record PrintedLeast (k : Recording) (rates text : List ℕ) : Type 0 where
   pub buffers : List ℕ
-  pub fulls : List ℕ
-  pub lines : text ≡ tableText rates buffers fulls
-  pub rows : (i : ℕ) → i < length rates → LeastBits k (getD rates i 0) (getD buffers i 0) (getD fulls i 0)
+  pub fullnesses : List ℕ
+  pub lines : text ≡ tableText rates buffers fullnesses
+  pub rows : (i : ℕ) → i < length rates → LeastBits k (getD rates i 0) (getD buffers i 0) (getD fullnesses i 0)
 
 -- the recording and the rates that the planner's own `open_sheet` gives, and the bytes that its `print_sheet` says it printed
 abbrev pub Demand2Print : Type 0
 Demand2Print =
-    (bytes l m o sizes ticks rates before text : List ℕ) (head : Head) (n : ℕ)
-    → OpenPromise bytes l m o (opened.Sheet head) sizes ticks rates → PrintPromise bytes before (printed.Text n) text
-    → PrintedLeast (recording (take (head .pictures) sizes) (take (head .pictures) ticks) (head .ts) (head .nu)) (take (head .rates) rates) (take n text)
+    (bytes l m o sizes ticks rates before text : List ℕ) (head : Head) (output : Output)
+    → OpenPromise bytes l m o (opened.Sheet head) sizes ticks rates → PrintPromise bytes before (printed.Text output) text
+    → PrintedLeast (recording (take (head .pictures) sizes) (take (head .pictures) ticks) (head .ts) (head .nu)) (take (head .rates) rates) (take (output .end) text)
 
 -- "Annex E's parameter bits are read and written to the letter, and each undoes the other"
 abbrev pub Demand2Written : Type 0
@@ -115,3 +126,8 @@ abbrev pub Demand2Read : Type 0
 Demand2Read =
     (bytes after : List ℕ) (start next : ℕ) (r : ParamsRead) (w : Position) → ReadPromise bytes start r → r .position ≡ position.Next next
     → WritePromise (r .params) bytes start w after → (w ≡ position.Next next) × (after ≡ bytes)
+
+abbrev pub Demand2Length : Type 0
+Demand2Length =
+    (params : Params) (bytes after : List ℕ) (start next n : ℕ) → WritePromise params bytes start (position.Next next) after
+    → LengthPromise params (length-answer.Bits n) → next ≡ start + n

@@ -22,7 +22,7 @@ use Rattle.lookup.specs.declared.Found.{Found}
 use Rattle.lookup.specs.declared.Found.the-variants as found
 
 abbrev pub LeastRow : Recording → Table → (i : ℕ) → Type 0
-LeastRow k w i = LeastPromise k (getD (w .rates) i 0) (figures.Least (getD (w .buffers) i 0) (getD (w .fulls) i 0))
+LeastRow k w i = LeastPromise k (getD (w .rates) i 0) (figures.Least (getD (w .buffers) i 0) (getD (w .fullnesses) i 0))
 
 -- "r from a to b: buffer and fullness interpolated straight and rounded up hold the recording at r, and each exceeds the least figure at r by
 -- less than 2 bits plus the duration in seconds (first removal to last) times (r-a)(b-r)/(b-a), in exact arithmetic."
@@ -47,8 +47,8 @@ Demand3Answers =
 -- a lookup in such a table is not refused
 abbrev pub Demand3Table : Type 0
 Demand3Table =
-    (k : Recording) (rates l m buffers fulls : List ℕ) → length l ≡ length rates → length m ≡ length rates
-    → TablePromise k rates 0 l m tabled.Written buffers fulls → (i r : ℕ) → suc i < length rates
+    (k : Recording) (rates l m buffers fullnesses : List ℕ) → length l ≡ length rates → length m ≡ length rates
+    → TablePromise k rates 0 l m tabled.Written buffers fullnesses → (i r : ℕ) → suc i < length rates
     → getD rates i 0 ≤ r → r ≤ getD rates (suc i) 0 → (a : Found)
-    → LookupPromise (table rates buffers fulls (k .ts) (k .nu) (span k)) r a
+    → LookupPromise (table rates buffers fullnesses (k .ts) (k .nu) (span k)) r a
     → (b : ℕ) × (f : ℕ) × (a ≡ found.Bucket b f) × Between k (getD rates i 0) (getD rates (suc i) 0) r b f

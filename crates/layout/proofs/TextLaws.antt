@@ -116,27 +116,27 @@ unfolding letters
 rowLine-length rate b f r h g = simp length-append (omega (arith, decimal-word rate r, decimal-word b h, decimal-word f g))
 
 -- the numbers of the first n rows are of 64 bits
-abbrev pub RowWords : (rates buffers fulls : List ℕ) (n : ℕ) → Type 0
-RowWords rates buffers fulls n = (i : ℕ) → i < n → Word (getD rates i 0) × Word (getD buffers i 0) × Word (getD fulls i 0)
+abbrev pub RowWords : (rates buffers fullnesses : List ℕ) (n : ℕ) → Type 0
+RowWords rates buffers fullnesses n = (i : ℕ) → i < n → Word (getD rates i 0) × Word (getD buffers i 0) × Word (getD fullnesses i 0)
 
-rowLines-length : (rates buffers fulls : List ℕ) (n : ℕ)
-    → RowWords rates buffers fulls n → length (rowLines rates buffers fulls n) ≤ 63 * n
+rowLines-length : (rates buffers fullnesses : List ℕ) (n : ℕ)
+    → RowWords rates buffers fullnesses n → length (rowLines rates buffers fullnesses n) ≤ 63 * n
 unfolding rowLines
-rowLines-length rates buffers fulls zero h = zero-le
-rowLines-length rates buffers fulls (suc n) h =
+rowLines-length rates buffers fullnesses zero h = zero-le
+rowLines-length rates buffers fullnesses (suc n) h =
     let (r, b, f) = h n (le-refl (suc n)) in
-    let before = rowLines-length rates buffers fulls n (λ i g. h i (omega arith)) in
-    let row = rowLine-length (getD rates n 0) (getD buffers n 0) (getD fulls n 0) r b f in
+    let before = rowLines-length rates buffers fullnesses n (λ i g. h i (omega arith)) in
+    let row = rowLine-length (getD rates n 0) (getD buffers n 0) (getD fullnesses n 0) r b f in
     rw length-append (omega arith)
 
-pub rowLines-mono : (rates buffers fulls : List ℕ) (m n : ℕ) → m ≤ n → length (rowLines rates buffers fulls m) ≤ length (rowLines rates buffers fulls n)
+pub rowLines-mono : (rates buffers fullnesses : List ℕ) (m n : ℕ) → m ≤ n → length (rowLines rates buffers fullnesses m) ≤ length (rowLines rates buffers fullnesses n)
 unfolding rowLines
-rowLines-mono rates buffers fulls m n =
-    le-ind (λ n. length (rowLines rates buffers fulls m) ≤ length (rowLines rates buffers fulls n)) (le-refl _)
-    (λ n _ before. rw (length-append (rowLines rates buffers fulls n)) (omega arith)) n
+rowLines-mono rates buffers fullnesses m n =
+    le-ind (λ n. length (rowLines rates buffers fullnesses m) ≤ length (rowLines rates buffers fullnesses n)) (le-refl _)
+    (λ n _ before. rw (length-append (rowLines rates buffers fullnesses n)) (omega arith)) n
 
-pub tableText-fits : (rates buffers fulls : List ℕ) → length rates ≤ rowsMax
-    → RowWords rates buffers fulls (length rates) → length (tableText rates buffers fulls) ≤ textMax
+pub tableText-fits : (rates buffers fullnesses : List ℕ) → length rates ≤ rowsMax
+    → RowWords rates buffers fullnesses (length rates) → length (tableText rates buffers fullnesses) ≤ textMax
 unfolding letters
-tableText-fits rates buffers fulls h small =
-    rw length-append (omega (arith, rowLines-length rates buffers fulls (length rates) small))
+tableText-fits rates buffers fullnesses h small =
+    rw length-append (omega (arith, rowLines-length rates buffers fullnesses (length rates) small))

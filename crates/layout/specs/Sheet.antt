@@ -9,6 +9,7 @@
 --     Opened, openOutcome      the answer to opening a sheet, and the three lent lists afterwards
 --     leastText       the table of a recording's least figures as text
 --     sheetText       the whole output for a sheet
+--     Output, outputOf         what is said of that output: where it ends, and how the sheet was judged
 --     Printed, printOutcome    the answer to printing it to a lent list of bytes, and that list afterwards
 -- Laws: proofs/SheetLaws.antt. Assumes nothing.
 use Prim.Native.Nat.{ℕ, _+_, _*_}
@@ -131,12 +132,19 @@ leastText k rates = tableText rates (map (leastBuffer k) rates) (map (leastFulln
 abbrev pub sheetText : (bytes : List ℕ) → List ℕ
 sheetText bytes = textOr (first (sheetFaults bytes)) (leastText (sheetRecording bytes) (sheetRates bytes))
 
+-- a sheet that passed has its table printed, one that was refused the line of that refusal
+pub record Output : Type 0 where
+  pub end : ℕ
+  pub judged : Judgement
+
+abbrev pub outputOf : (bytes : List ℕ) → Output
+outputOf bytes = record { end = length (sheetText bytes); judged = first (sheetFaults bytes) }
+
 pub record Printed : Type 0 where
-  pub answer : Answer ℕ
+  pub answer : Answer Output
   pub text : List ℕ
 
--- how many bytes were printed
 abbrev pub printOutcome : (bytes text : List ℕ) → Printed
 printOutcome bytes text =
     let j : Judgement = roomCheck text 0 (length (sheetText bytes)) in
-    record { answer = answerWith j (length (sheetText bytes)); text = writtenIf j text 0 (sheetText bytes) }
+    record { answer = answerWith j (outputOf bytes); text = writtenIf j text 0 (sheetText bytes) }

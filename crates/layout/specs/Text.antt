@@ -37,9 +37,9 @@ abbrev pub rowLine : (rate b f : ℕ) → List ℕ
 rowLine rate b f = decimal rate ++ (letters " " ++ (decimal b ++ (letters " " ++ (decimal f ++ letters "\n"))))
 
 -- the lines of the first n rows
-unfoldable pub rowLines : (rates buffers fulls : List ℕ) (n : ℕ) → List ℕ
-rowLines rates buffers fulls zero = []
-rowLines rates buffers fulls (suc n) = rowLines rates buffers fulls n ++ rowLine (getD rates n 0) (getD buffers n 0) (getD fulls n 0)
+unfoldable pub rowLines : (rates buffers fullnesses : List ℕ) (n : ℕ) → List ℕ
+rowLines rates buffers fullnesses zero = []
+rowLines rates buffers fullnesses (suc n) = rowLines rates buffers fullnesses n ++ rowLine (getD rates n 0) (getD buffers n 0) (getD fullnesses n 0)
 
-abbrev pub tableText : (rates buffers fulls : List ℕ) → List ℕ
-tableText rates buffers fulls = letters "rate buffer start\n" ++ rowLines rates buffers fulls (length rates)
+abbrev pub tableText : (rates buffers fullnesses : List ℕ) → List ℕ
+tableText rates buffers fullnesses = letters "rate buffer start\n" ++ rowLines rates buffers fullnesses (length rates)

@@ -55,7 +55,7 @@ module _ (k : Recording) (rates : List ℕ) (at : ℕ) (l m : List ℕ) where
     pub recorded : Within k
     pub rated : RatesWithin rates
     pub buffers : at + length rates ≤ length l
-    pub fulls : at + length rates ≤ length m
+    pub fullnesses : at + length rates ≤ length m
 
   module _ (pass : lowest (tableFaults k rates at l m) ≡ passed) where
     pub table-roomy : Roomy
@@ -67,15 +67,15 @@ module _ (k : Recording) (rates : List ℕ) (at : ℕ) (l m : List ℕ) where
           recorded = judgeOutcome-within k .0 recorded;
           rated = rateList-within rates .0 (lowest-passed (ratesFaults rates) .0 rated .1 .0);
           buffers = roomCheck-passed l at (length rates) .0 (each .0);
-          fulls = roomCheck-passed m at (length rates) .0 (each .1 .0);
+          fullnesses = roomCheck-passed m at (length rates) .0 (each .1 .0);
         }
 
-    pub table-written : (buffers fulls : List ℕ)
-        → buffers ≡ written (lent l at) 0 (map (leastBuffer k) rates) → fulls ≡ written (lent m at) 0 (map (leastFullness k) rates)
-        → tabled Written (back l at buffers) (back m at fulls) ≡ tableOutcome k rates at l m
-    table-written buffers fulls eb ef =
+    pub table-written : (buffers fullnesses : List ℕ)
+        → buffers ≡ written (lent l at) 0 (map (leastBuffer k) rates) → fullnesses ≡ written (lent m at) 0 (map (leastFullness k) rates)
+        → tabled Written (back l at buffers) (back m at fullnesses) ≡ tableOutcome k rates at l m
+    table-written buffers fullnesses eb ef =
         rw (
           pass,
           written-back l at (map (leastBuffer k) rates) buffers eb,
-          written-back m at (map (leastFullness k) rates) fulls ef,
+          written-back m at (map (leastFullness k) rates) fullnesses ef,
         )

@@ -36,4 +36,4 @@ pub table-unique : (k : Recording) (rates : List ℕ) (at : ℕ) (l m : List ℕ
     → TablePromise k rates at l m v b f → TablePromise k rates at l m w b′ f′ → (v ≡ w) × (b ≡ b′) × (f ≡ f′)
 table-unique k rates at l m v w b f b′ f′ p q =
     let same = p ∙ sym q in
-    (tabledOf-one v w (ap (λ (o : outcomes.Tabled). o .answer) same), ap (λ (o : outcomes.Tabled). o .buffers) same, ap (λ (o : outcomes.Tabled). o .fulls) same)
+    (tabledOf-one v w (ap (λ (o : outcomes.Tabled). o .answer) same), ap (λ (o : outcomes.Tabled). o .buffers) same, ap (λ (o : outcomes.Tabled). o .fullnesses) same)

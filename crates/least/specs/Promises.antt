@@ -14,5 +14,5 @@ use Rattle.least.specs.declared.Tabled.{Tabled}
 abbrev pub LeastPromise : Recording → (rate : ℕ) → Figures → Type 0
 LeastPromise k rate r = figuresOf rate r ≡ leastOutcome k rate
 
-abbrev pub TablePromise : Recording → (rates : List ℕ) (at : ℕ) (l m : List ℕ) → Tabled → (buffers fulls : List ℕ) → Type 0
-TablePromise k rates at l m r buffers fulls = tabled r buffers fulls ≡ tableOutcome k rates at l m
+abbrev pub TablePromise : Recording → (rates : List ℕ) (at : ℕ) (l m : List ℕ) → Tabled → (buffers fullnesses : List ℕ) → Type 0
+TablePromise k rates at l m r buffers fullnesses = tabled r buffers fullnesses ≡ tableOutcome k rates at l m

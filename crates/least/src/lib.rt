@@ -46,16 +46,16 @@ fn fill(
     nu: u64,
     rates: &[u64],
     buffers: &mut [u64],
-    fulls: &mut [u64],
+    fullnesses: &mut [u64],
 )
-    requires { ⌜ Within (recording (now sizes) (now ticks) ts nu) × RatesWithin (now rates) × (length (now rates) ≤ length (now buffers)) × (length (now rates) ≤ length (now fulls)) ⌝ }
-    ensures { λ r. ⌜ (now (buffers .exit) ≡ written (now (buffers .entry)) 0 (map (leastBuffer (recording (now (sizes .entry)) (now (ticks .entry)) ts nu)) (now (rates .entry)))) × (now (fulls .exit) ≡ written (now (fulls .entry)) 0 (map (leastFullness (recording (now (sizes .entry)) (now (ticks .entry)) ts nu)) (now (rates .entry)))) ⌝ }
+    requires { ⌜ Within (recording (now sizes) (now ticks) ts nu) × RatesWithin (now rates) × (length (now rates) ≤ length (now buffers)) × (length (now rates) ≤ length (now fullnesses)) ⌝ }
+    ensures { λ r. ⌜ (now (buffers .exit) ≡ written (now (buffers .entry)) 0 (map (leastBuffer (recording (now (sizes .entry)) (now (ticks .entry)) ts nu)) (now (rates .entry)))) × (now (fullnesses .exit) ≡ written (now (fullnesses .entry)) 0 (map (leastFullness (recording (now (sizes .entry)) (now (ticks .entry)) ts nu)) (now (rates .entry)))) ⌝ }
 {
     let mut i = 0;
     while i < rates.len() {
         let b = needs::least_at(sizes, ticks, ts, nu, rates[i]);
         buffers[i] = b.buffer;
-        fulls[i] = b.fullness;
+        fullnesses[i] = b.fullness;
         i += 1;
     }
 }
@@ -69,13 +69,13 @@ pub fn table(
     rates: &[u64],
     at: usize,
     buffers: &mut [u64],
-    fulls: &mut [u64],
+    fullnesses: &mut [u64],
 ) -> Tabled
-    ensures { λ r. ⌜ TablePromise (recording (now (sizes .entry)) (now (ticks .entry)) ts nu) (now (rates .entry)) at (now (buffers .entry)) (now (fulls .entry)) r (now (buffers .exit)) (now (fulls .exit)) ⌝ }
+    ensures { λ r. ⌜ TablePromise (recording (now (sizes .entry)) (now (ticks .entry)) ts nu) (now (rates .entry)) at (now (buffers .entry)) (now (fullnesses .entry)) r (now (buffers .exit)) (now (fullnesses .exit)) ⌝ }
 {
     let rows = judgement::lower(
         judging::judge_rates(rates),
-        judgement::judge_rooms(buffers.len(), fulls.len(), at, rates.len()),
+        judgement::judge_rooms(buffers.len(), fullnesses.len(), at, rates.len()),
     );
     let judged = judgement::lower(judging::judge(sizes, ticks, ts, nu), rows);
     if let Judgement::Refused(number, place) = judged {
@@ -88,7 +88,7 @@ pub fn table(
         nu,
         rates,
         &mut buffers[at..],
-        &mut fulls[at..],
+        &mut fullnesses[at..],
     );
     Tabled::Written
 }

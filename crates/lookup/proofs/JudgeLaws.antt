@@ -1,7 +1,7 @@
 -- The refusal of a lookup, and what a lookup that is not refused has. Definitions: model/specs/Faults.antt.
---     lookup-buffers, lookup-fulls    lists of different length are refused
+--     lookup-buffers, lookup-fullnesses    lists of different length are refused
 --     lookup-both                     else clock, rates, the rate asked and the rows, judged each by itself and taken together
---     lookup-rate-some, buffers-ready, fulls-ready    a lookup that is not refused is ready for both figures
+--     lookup-rate-some, buffers-ready, fullnesses-ready    a lookup that is not refused is ready for both figures
 -- Assumes nothing.
 use Prim.Native.Nat.{ℕ, _≤_, _<_}
 use native.Mathlib.Nat.{le-trans}
@@ -27,12 +27,12 @@ module _ (w : Table) (r : ℕ) where
   lookup-buffers ne = by-order ∙ here _ (test-true refusal.lengths 0 (rw (ne-eqb _ _ ne)))
 
   module _ (buffers : length (w .buffers) ≡ length (w .rates)) where
-    pub lookup-fulls : (length (w .fulls) ≡ length (w .rates) → ⊥) → lowest (lookupFaults w r) ≡ refused refusal.lengths 0
-    lookup-fulls ne = by-order ∙ here _ (test-true refusal.lengths 0 (rw (eq-eqb _ _ buffers, ne-eqb _ _ ne)))
+    pub lookup-fullnesses : (length (w .fullnesses) ≡ length (w .rates) → ⊥) → lowest (lookupFaults w r) ≡ refused refusal.lengths 0
+    lookup-fullnesses ne = by-order ∙ here _ (test-true refusal.lengths 0 (rw (eq-eqb _ _ buffers, ne-eqb _ _ ne)))
 
-    module _ (fulls : length (w .fulls) ≡ length (w .rates)) where
+    module _ (fullnesses : length (w .fullnesses) ≡ length (w .rates)) where
       paired : tableLengthsCheck w ≡ passed
-      paired = test-false refusal.lengths 0 (rw (eq-eqb _ _ buffers, eq-eqb _ _ fulls))
+      paired = test-false refusal.lengths 0 (rw (eq-eqb _ _ buffers, eq-eqb _ _ fullnesses))
 
       -- what is left once the lengths are equal, each judged by itself and taken together
       pub lookup-both : {a b c d : Judgement} → a ≡ tableClockCheck w → b ≡ lowest (ratesFaults (w .rates)) → c ≡ rateCheck r → d ≡ rowsCheck w
@@ -47,15 +47,15 @@ module _ (w : Table) (r : ℕ) where
     each : AllPassed (lookupFaults w r)
     each = lowest-passed (lookupFaults w r) .0 ok
 
-    lengths : (length (w .buffers) ≡ length (w .rates)) × (length (w .fulls) ≡ length (w .rates))
+    lengths : (length (w .buffers) ≡ length (w .rates)) × (length (w .fullnesses) ≡ length (w .rates))
     lengths =
         let (b, f) = or-false _ _ .0 (refuseIf-passed _ refusal.lengths 0 .0 (each .0)) in
         (eqb-true _ _ (not-false _ b), eqb-true _ _ (not-false _ f))
 
-    row-fits : (i : ℕ) → i < length (w .rates) → (getD (w .buffers) i 0 ≤ bucketMax) × (getD (w .fulls) i 0 ≤ getD (w .buffers) i 0)
+    row-fits : (i : ℕ) → i < length (w .rates) → (getD (w .buffers) i 0 ≤ bucketMax) × (getD (w .fullnesses) i 0 ≤ getD (w .buffers) i 0)
     row-fits i h =
-        let (b, f) = or-false _ _ .0 (firstFault-passed refusal.bucket (badRow (w .buffers) (w .fulls)) (length (w .rates)) .0 (each .1 .1 .1 .1 .1 .0) i h) in
-        (outside-false 1 bucketMax (getD (w .buffers) i 0) .0 b .1, outside-false 1 (getD (w .buffers) i 0) (getD (w .fulls) i 0) .0 f .1)
+        let (b, f) = or-false _ _ .0 (firstFault-passed refusal.bucket (badRow (w .buffers) (w .fullnesses)) (length (w .rates)) .0 (each .1 .1 .1 .1 .1 .0) i h) in
+        (outside-false 1 bucketMax (getD (w .buffers) i 0) .0 b .1, outside-false 1 (getD (w .buffers) i 0) (getD (w .fullnesses) i 0) .0 f .1)
 
     pub lookup-rate-some : 1 ≤ r
     lookup-rate-some = outside-false 1 rateMax r .0 (refuseIf-passed _ refusal.rate 0 .0 (each .1 .1 .1 .1 .0)) .0
@@ -80,5 +80,5 @@ module _ (w : Table) (r : ℕ) where
     pub buffers-ready : FigureReady (axisOf w) (w .buffers)
     buffers-ready = ready (w .buffers) (lengths .0) (λ i h. row-fits i h .0)
 
-    pub fulls-ready : FigureReady (axisOf w) (w .fulls)
-    fulls-ready = ready (w .fulls) (lengths .1) (λ i h. le-trans (row-fits i h .1) (row-fits i h .0))
+    pub fullnesses-ready : FigureReady (axisOf w) (w .fullnesses)
+    fullnesses-ready = ready (w .fullnesses) (lengths .1) (λ i h. le-trans (row-fits i h .1) (row-fits i h .0))

@@ -24,13 +24,13 @@ pub enum Found {
 }
 
 // The first row whose buffer or fullness is out of range, or the number of rows.
-fn first_bad_row(buffers: &[u64], fulls: &[u64]) -> usize
-    requires { ⌜ length (now fulls) ≡ length (now buffers) ⌝ }
-    ensures { λ r. ⌜ FirstBad (badRow (now (buffers .entry)) (now (fulls .entry))) (length (now (buffers .entry))) r ⌝ }
+fn first_bad_row(buffers: &[u64], fullnesses: &[u64]) -> usize
+    requires { ⌜ length (now fullnesses) ≡ length (now buffers) ⌝ }
+    ensures { λ r. ⌜ FirstBad (badRow (now (buffers .entry)) (now (fullnesses .entry))) (length (now (buffers .entry))) r ⌝ }
 {
     let mut i = 0;
     while i < buffers.len() {
-        if judging::is_bad_bucket(buffers[i], fulls[i]) {
+        if judging::is_bad_bucket(buffers[i], fullnesses[i]) {
             return i;
         }
         i += 1;
@@ -97,11 +97,11 @@ fn is_bad_span(ts: u64, nu: u64, span: u64) -> bool
 }
 
 // Judges the buffers and fullnesses of as many rows as both lists have: refusal 7.
-fn judge_rows(buffers: &[u64], fulls: &[u64]) -> Judgement
-    requires { ⌜ length (now fulls) ≡ length (now buffers) ⌝ }
-    ensures { λ r. ⌜ judgementOf r ≡ firstFault refusal.bucket (badRow (now (buffers .entry)) (now (fulls .entry))) (length (now (buffers .entry))) ⌝ }
+fn judge_rows(buffers: &[u64], fullnesses: &[u64]) -> Judgement
+    requires { ⌜ length (now fullnesses) ≡ length (now buffers) ⌝ }
+    ensures { λ r. ⌜ judgementOf r ≡ firstFault refusal.bucket (badRow (now (buffers .entry)) (now (fullnesses .entry))) (length (now (buffers .entry))) ⌝ }
 {
-    let bad = first_bad_row(buffers, fulls);
+    let bad = first_bad_row(buffers, fullnesses);
     judgement::refuse_if(bad < buffers.len(), BUCKET, bad)
 }
 
@@ -109,22 +109,22 @@ fn judge_rows(buffers: &[u64], fulls: &[u64]) -> Judgement
 fn judge(
     rates: &[u64],
     buffers: &[u64],
-    fulls: &[u64],
+    fullnesses: &[u64],
     ts: u64,
     nu: u64,
     span: u64,
     rate: u64,
 ) -> Judgement
-    ensures { λ r. ⌜ judgementOf r ≡ lowest (lookupFaults (table (now (rates .entry)) (now (buffers .entry)) (now (fulls .entry)) ts nu span) rate) ⌝ }
+    ensures { λ r. ⌜ judgementOf r ≡ lowest (lookupFaults (table (now (rates .entry)) (now (buffers .entry)) (now (fullnesses .entry)) ts nu span) rate) ⌝ }
 {
     let n = rates.len();
     if buffers.len() != n {
         return Judgement::Refused(LENGTHS, 0);
     }
-    if fulls.len() != n {
+    if fullnesses.len() != n {
         return Judgement::Refused(LENGTHS, 0);
     }
-    let rows = judgement::lower(judging::judge_rate(rate), judge_rows(buffers, fulls));
+    let rows = judgement::lower(judging::judge_rate(rate), judge_rows(buffers, fullnesses));
     let rated = judgement::lower(judging::judge_rates(rates), rows);
     judgement::lower(
         judgement::refuse_if(is_bad_span(ts, nu, span), CLOCK, 0),
@@ -136,20 +136,20 @@ fn judge(
 pub fn look_up(
     rates: &[u64],
     buffers: &[u64],
-    fulls: &[u64],
+    fullnesses: &[u64],
     ts: u64,
     nu: u64,
     span: u64,
     rate: u64,
 ) -> Found
-    ensures { λ r. ⌜ LookupPromise (table (now (rates .entry)) (now (buffers .entry)) (now (fulls .entry)) ts nu span) rate r ⌝ }
+    ensures { λ r. ⌜ LookupPromise (table (now (rates .entry)) (now (buffers .entry)) (now (fullnesses .entry)) ts nu span) rate r ⌝ }
 {
-    let judged = judge(rates, buffers, fulls, ts, nu, span, rate);
+    let judged = judge(rates, buffers, fullnesses, ts, nu, span, rate);
     if let Judgement::Refused(number, place) = judged {
         return Found::Refused(number, place);
     }
     let row = rows_up_to(rates, rate);
     let buffer = figure(rates, buffers, ts, nu, span, rate, row);
-    let fullness = figure(rates, fulls, ts, nu, span, rate, row);
+    let fullness = figure(rates, fullnesses, ts, nu, span, rate, row);
     Found::Bucket(buffer, fullness)
 }

@@ -63,8 +63,8 @@ scheduleFaults-ascending k u at starts ends =
 pub leastFaults-ascending : (k : Recording) (rate : ℕ) → Ascending refusal.pictures (leastFaults k rate)
 leastFaults-ascending k rate = recordingFaults-ascending k (test refusal.rate _ 0 tt none)
 
-pub tableFaults-ascending : (k : Recording) (rates : List ℕ) (at : ℕ) (buffers fulls : List ℕ) → Ascending refusal.pictures (tableFaults k rates at buffers fulls)
-tableFaults-ascending k rates at buffers fulls =
+pub tableFaults-ascending : (k : Recording) (rates : List ℕ) (at : ℕ) (buffers fullnesses : List ℕ) → Ascending refusal.pictures (tableFaults k rates at buffers fullnesses)
+tableFaults-ascending k rates at buffers fullnesses =
     recordingFaults-ascending k
     (test refusal.rate _ 0 tt
     (list refusal.rate _ (length rates) tt

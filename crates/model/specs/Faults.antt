@@ -112,15 +112,15 @@ scheduleFaults k u at starts ends = verdictFaults k u ++ roomFaults starts ends 
 abbrev pub leastFaults : Recording → (rate : ℕ) → List Judgement
 leastFaults k rate = recordingFaults k ++ (rateCheck rate ∷ [])
 
-abbrev pub tableFaults : Recording → (rates : List ℕ) (at : ℕ) (buffers fulls : List ℕ) → List Judgement
-tableFaults k rates at buffers fulls =
-    recordingFaults k ++ (ratesFaults rates ++ roomFaults buffers fulls at (length rates))
+abbrev pub tableFaults : Recording → (rates : List ℕ) (at : ℕ) (buffers fullnesses : List ℕ) → List Judgement
+tableFaults k rates at buffers fullnesses =
+    recordingFaults k ++ (ratesFaults rates ++ roomFaults buffers fullnesses at (length rates))
 
 -- "a table's own lists, differ in length"
 abbrev pub tableLengthsCheck : Table → Judgement
 tableLengthsCheck w =
     refuseIf
-    (not (eqb (length (w .buffers)) (length (w .rates))) || not (eqb (length (w .fulls)) (length (w .rates))))
+    (not (eqb (length (w .buffers)) (length (w .rates))) || not (eqb (length (w .fullnesses)) (length (w .rates))))
     refusal.lengths
     0
 
@@ -131,12 +131,12 @@ badSpan ts nu ticks = badClock ts nu || ltb spanMax ticks
 abbrev pub tableClockCheck : Table → Judgement
 tableClockCheck w = refuseIf (badSpan (w .ts) (w .nu) (w .ticks)) refusal.clock 0
 
-abbrev pub badRow : (buffers fulls : List ℕ) → ℕ → Bool
-badRow buffers fulls i = badBucket (getD buffers i 0) (getD fulls i 0)
+abbrev pub badRow : (buffers fullnesses : List ℕ) → ℕ → Bool
+badRow buffers fullnesses i = badBucket (getD buffers i 0) (getD fullnesses i 0)
 
 -- B or F of a row out of range, at the first such row
 abbrev pub rowsCheck : Table → Judgement
-rowsCheck w = firstFault refusal.bucket (badRow (w .buffers) (w .fulls)) (length (w .rates))
+rowsCheck w = firstFault refusal.bucket (badRow (w .buffers) (w .fullnesses)) (length (w .rates))
 
 -- "then a single rate"
 abbrev pub lookupFaults : Table → (r : ℕ) → List Judgement

@@ -31,14 +31,14 @@ axis rates ts nu ticks = record { rates = rates; ts = ts; nu = nu; ticks = ticks
 pub record Table : Type 0 where
   pub rates : List ℕ
   pub buffers : List ℕ
-  pub fulls : List ℕ
+  pub fullnesses : List ℕ
   pub ts : ℕ
   pub nu : ℕ
   pub ticks : ℕ
 
-abbrev pub table : (rates buffers fulls : List ℕ) (ts nu ticks : ℕ) → Table
-table rates buffers fulls ts nu ticks =
-    record { rates = rates; buffers = buffers; fulls = fulls; ts = ts; nu = nu; ticks = ticks }
+abbrev pub table : (rates buffers fullnesses : List ℕ) (ts nu ticks : ℕ) → Table
+table rates buffers fullnesses ts nu ticks =
+    record { rates = rates; buffers = buffers; fullnesses = fullnesses; ts = ts; nu = nu; ticks = ticks }
 
 abbrev pub axisOf : Table → Axis
 axisOf w = axis (w .rates) (w .ts) (w .nu) (w .ticks)
@@ -80,4 +80,4 @@ abbrev pub figureAt : Axis → (xs : List ℕ) (r : ℕ) → ℕ
 figureAt a xs r = figureOn a xs r (spotOf (a .rates) r)
 
 abbrev pub lookupOf : Table → (r : ℕ) → Bucket
-lookupOf w r = bucket r (figureAt (axisOf w) (w .buffers) r) (figureAt (axisOf w) (w .fulls) r)
+lookupOf w r = bucket r (figureAt (axisOf w) (w .buffers) r) (figureAt (axisOf w) (w .fullnesses) r)

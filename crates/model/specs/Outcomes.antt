@@ -38,12 +38,12 @@ leastOutcome k rate = answerWith (lowest (leastFaults k rate)) (leastBucket k ra
 pub record Tabled : Type 0 where
   pub answer : Judgement
   pub buffers : List ℕ
-  pub fulls : List ℕ
+  pub fullnesses : List ℕ
 
-abbrev pub tableOutcome : Recording → (rates : List ℕ) (at : ℕ) (buffers fulls : List ℕ) → Tabled
+abbrev pub tableOutcome : Recording → (rates : List ℕ) (at : ℕ) (buffers fullnesses : List ℕ) → Tabled
 tableOutcome k rates at l m =
     let j : Judgement = lowest (tableFaults k rates at l m) in
-    record { answer = j; buffers = writtenIf j l at (map (leastBuffer k) rates); fulls = writtenIf j m at (map (leastFullness k) rates) }
+    record { answer = j; buffers = writtenIf j l at (map (leastBuffer k) rates); fullnesses = writtenIf j m at (map (leastFullness k) rates) }
 
 abbrev pub lookupOutcome : Table → (r : ℕ) → Answer Bucket
 lookupOutcome w r = answerWith (lowest (lookupFaults w r)) (lookupOf w r)

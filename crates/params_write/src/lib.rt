@@ -1,4 +1,4 @@
-// Writing a parameter record, field by field. Serves document 01, "HRD parameter bits".
+// Writing a parameter record, field by field, and how many bits that takes. Serves document 01, "HRD parameter bits".
 use judgement::Judgement;
 use params::Field;
 use params::Params;
@@ -13,7 +13,13 @@ ghost use Rattle.coding.specs.Codes.{codeBits, putBits};
 ghost use Rattle.coding.specs.Params.{paramsJudged, paramsBits};
 ghost use Rattle.params.specs.Outcome.{paramsOf};
 ghost use Rattle.params.specs.Steps.{codeOf};
-ghost use Rattle.params_write.specs.Promises.{WritePromise};
+ghost use Rattle.params_write.specs.Promises.{LengthPromise, WritePromise};
+
+// How many bits a record takes; or a refusal, its number and its place.
+pub enum Length {
+    Bits(u64),
+    Refused(u8, usize),
+}
 
 // How many bits a value takes in a field.
 fn field_length(field: Field, v: u64) -> u64
@@ -39,6 +45,17 @@ fn params_length(params: Params) -> u64
         f += 1;
     }
     bits
+}
+
+// How many bits a record takes: refusal 10 of the record.
+pub fn length_of(params: Params) -> Length
+    ensures { λ r. ⌜ LengthPromise params r ⌝ }
+{
+    let judged = params::judge_params(params);
+    if let Judgement::Refused(number, place) = judged {
+        return Length::Refused(number, place);
+    }
+    Length::Bits(params_length(params))
 }
 
 // Writes a value in a field's code at position p and gives the next position.

@@ -10,7 +10,8 @@ fn main() {
     let n = io::read_full(libc::STDIN_FILENO, &mut bytes);
     let mut text = [0u8; TEXT_MAX];
     let printed = print::print_sheet(&bytes[..n], &mut text);
-    if let Printed::Text(end) = printed {
+    if let Printed::Text(output) = printed {
+        let end = output.end;
         io::write_all(libc::STDOUT_FILENO, &text[..end]);
     }
 }

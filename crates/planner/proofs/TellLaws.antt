@@ -23,7 +23,7 @@ use Rattle.print.specs.Outcome.{printedOf, printed}
 use Rattle.print.specs.declared.Printed.{Printed}
 use Rattle.answers.specs.declared.recordings.PlannerJudgement.{PlannerJudgement}
 use Rattle.answers.specs.declared.recordings.PlannerVerdict.{PlannerVerdict}
-use Rattle.answers.specs.declared.records.PlannerRead.{PlannerRead}
+use Rattle.answers.specs.declared.records.PlannerParamsRead.{PlannerParamsRead}
 use Rattle.answers.specs.declared.records.PlannerPosition.{PlannerPosition}
 use Rattle.answers.specs.declared.sheets.PlannerSheet.{PlannerSheet}
 use Rattle.answers.specs.declared.sheets.PlannerText.{PlannerText}
@@ -36,11 +36,11 @@ pub tell-schedule : (v : Verdict) {r : PlannerVerdict} {starts ends : List ℕ} 
     → r ≡ verdictAnswer (answerOf v) → scheduleAnswer r starts ends t
 tell-schedule v promised told = (told ∙ ap (λ t. verdictAnswer (t .answer)) promised, ap (λ t. t .starts) promised, ap (λ t. t .ends) promised)
 
-pub tell-table : (v : Tabled) {r : PlannerJudgement} {buffers fulls : List ℕ} {t : outcomes.Tabled} → tabled v buffers fulls ≡ t
-    → r ≡ judgementAnswer (tabledOf v) → tableAnswer r buffers fulls t
-tell-table v promised told = (told ∙ ap (λ t. judgementAnswer (t .answer)) promised, ap (λ t. t .buffers) promised, ap (λ t. t .fulls) promised)
+pub tell-table : (v : Tabled) {r : PlannerJudgement} {buffers fullnesses : List ℕ} {t : outcomes.Tabled} → tabled v buffers fullnesses ≡ t
+    → r ≡ judgementAnswer (tabledOf v) → tableAnswer r buffers fullnesses t
+tell-table v promised told = (told ∙ ap (λ t. judgementAnswer (t .answer)) promised, ap (λ t. t .buffers) promised, ap (λ t. t .fullnesses) promised)
 
-pub tell-read : {r : PlannerRead} {s t : coding.ParamsRead} → s ≡ t → readAnswer r s → readAnswer r t
+pub tell-read : {r : PlannerParamsRead} {s t : coding.ParamsRead} → s ≡ t → readAnswer r s → readAnswer r t
 tell-read promised told = (told .0 ∙ ap (λ t. positionAnswer (t .answer)) promised, told .1 ∙ ap (λ t. t .params) promised)
 
 pub tell-write : (v : Position) {r : PlannerPosition} {bytes : List ℕ} {t : coding.ParamsWritten} → paramsWritten v bytes ≡ t

@@ -16,8 +16,8 @@ use Rattle.answers.specs.declared.figures.PlannerBucket.{PlannerBucket}
 abbrev pub ExportedLeast : Recording → (rate : ℕ) → PlannerBucket → Type 0
 ExportedLeast k rate r = r ≡ bucketAnswer (leastOutcome k rate)
 
-abbrev pub ExportedTable : Recording → (rates : List ℕ) (at : ℕ) (l m : List ℕ) → PlannerJudgement → (buffers fulls : List ℕ) → Type 0
-ExportedTable k rates at l m r buffers fulls = tableAnswer r buffers fulls (tableOutcome k rates at l m)
+abbrev pub ExportedTable : Recording → (rates : List ℕ) (at : ℕ) (l m : List ℕ) → PlannerJudgement → (buffers fullnesses : List ℕ) → Type 0
+ExportedTable k rates at l m r buffers fullnesses = tableAnswer r buffers fullnesses (tableOutcome k rates at l m)
 
 abbrev pub ExportedLookup : Table → (rate : ℕ) → PlannerBucket → Type 0
 ExportedLookup w rate r = r ≡ bucketAnswer (lookupOutcome w rate)

@@ -3,3 +3,4 @@ pub mod Figures
 pub mod Seconds
 pub mod Records
 pub mod Sheets
+pub mod Version

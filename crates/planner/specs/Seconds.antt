@@ -8,10 +8,10 @@ use Rattle.model.specs.Arrival.{Bucket}
 use Rattle.model.specs.Panel.{secondsOutcome, panelOutcome}
 use Rattle.answers.specs.Seconds.{secondsAnswer, readingAnswer}
 use Rattle.answers.specs.declared.seconds.PlannerSeconds.{PlannerSeconds}
-use Rattle.answers.specs.declared.seconds.PlannerReading.{PlannerReading}
+use Rattle.answers.specs.declared.seconds.PlannerPanelReading.{PlannerPanelReading}
 
 abbrev pub ExportedSeconds : Bucket → PlannerSeconds → Type 0
 ExportedSeconds u r = r ≡ secondsAnswer (secondsOutcome u)
 
-abbrev pub ExportedPanel : Bucket → (limit : Float) → PlannerReading → Type 0
+abbrev pub ExportedPanel : Bucket → (limit : Float) → PlannerPanelReading → Type 0
 ExportedPanel u limit r = r ≡ readingAnswer (panelOutcome u limit)

@@ -1,6 +1,6 @@
 -- What the exports on sheets and their text promise of their structs and of the lists that they are lent, cited by their `ensures`.
 --     ExportedOpen     planner_open_sheet, with its three lists afterwards
---     ExportedPrint    planner_print_sheet, with its bytes afterwards
+--     ExportedPrint    planner_sheet_text, with its bytes afterwards
 -- Assumes nothing.
 use Prim.Native.Nat.{ℕ}
 use mathlib.Core.List.{List}

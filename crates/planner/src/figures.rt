@@ -33,11 +33,11 @@ pub extern "C" fn planner_table(
     rates: &[u64],
     at: usize,
     buffers: &mut [u64],
-    fulls: &mut [u64],
+    fullnesses: &mut [u64],
 ) -> PlannerJudgement
-    ensures { λ r. ⌜ ExportedTable (recording (now (sizes .entry)) (now (ticks .entry)) ts nu) (now (rates .entry)) at (now (buffers .entry)) (now (fulls .entry)) r (now (buffers .exit)) (now (fulls .exit)) ⌝ }
+    ensures { λ r. ⌜ ExportedTable (recording (now (sizes .entry)) (now (ticks .entry)) ts nu) (now (rates .entry)) at (now (buffers .entry)) (now (fullnesses .entry)) r (now (buffers .exit)) (now (fullnesses .exit)) ⌝ }
 {
-    as_table(least::table(sizes, ticks, ts, nu, rates, at, buffers, fulls))
+    as_table(least::table(sizes, ticks, ts, nu, rates, at, buffers, fullnesses))
 }
 
 // Buffer and start fullness for any rate, from a table that is handed in.
@@ -45,13 +45,13 @@ pub extern "C" fn planner_table(
 pub extern "C" fn planner_look_up(
     rates: &[u64],
     buffers: &[u64],
-    fulls: &[u64],
+    fullnesses: &[u64],
     ts: u64,
     nu: u64,
     span: u64,
     rate: u64,
 ) -> PlannerBucket
-    ensures { λ r. ⌜ ExportedLookup (table (now (rates .entry)) (now (buffers .entry)) (now (fulls .entry)) ts nu span) rate r ⌝ }
+    ensures { λ r. ⌜ ExportedLookup (table (now (rates .entry)) (now (buffers .entry)) (now (fullnesses .entry)) ts nu span) rate r ⌝ }
 {
-    as_found(lookup::look_up(rates, buffers, fulls, ts, nu, span, rate))
+    as_found(lookup::look_up(rates, buffers, fullnesses, ts, nu, span, rate))
 }

@@ -5,3 +5,4 @@ pub mod recordings;
 pub mod records;
 pub mod seconds;
 pub mod sheets;
+pub mod version;

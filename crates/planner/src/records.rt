@@ -3,13 +3,17 @@ use answers::recordings::PlannerJudgement;
 use answers::recordings::PlannerVerdict;
 use answers::recordings::as_judgement;
 use answers::recordings::as_verdict;
+use answers::records::PlannerLength;
+use answers::records::PlannerParamsRead;
 use answers::records::PlannerPosition;
-use answers::records::PlannerRead;
+use answers::records::PlannerRow;
+use answers::records::as_length;
 use answers::records::as_position;
 use answers::records::as_read;
+use answers::records::as_row;
 use params::Params;
 ghost use Rattle.model.specs.Recording.{recording};
-ghost use Rattle.planner.specs.Records.{ExportedRecord, ExportedRead, ExportedWrite, ExportedRow};
+ghost use Rattle.planner.specs.Records.{ExportedRecord, ExportedLength, ExportedParamsRow, ExportedRead, ExportedWrite, ExportedRow};
 
 // Judges a parameter record.
 #[no_mangle]
@@ -19,9 +23,25 @@ pub extern "C" fn planner_judge_params(params: Params) -> PlannerJudgement
     as_judgement(params::judge_params(params))
 }
 
+// How many bits a parameter record takes.
+#[no_mangle]
+pub extern "C" fn planner_params_length(params: Params) -> PlannerLength
+    ensures { λ r. ⌜ ExportedLength params r ⌝ }
+{
+    as_length(params_write::length_of(params))
+}
+
+// Rate and size of a row of a parameter record.
+#[no_mangle]
+pub extern "C" fn planner_params_row(params: Params, row: usize) -> PlannerRow
+    ensures { λ r. ⌜ ExportedParamsRow params row r ⌝ }
+{
+    as_row(row_verdict::params_row(params, row))
+}
+
 // Reads a parameter record at a bit position.
 #[no_mangle]
-pub extern "C" fn planner_read_params(bytes: &[u8], start: u64) -> PlannerRead
+pub extern "C" fn planner_read_params(bytes: &[u8], start: u64) -> PlannerParamsRead
     ensures { λ r. ⌜ ExportedRead (now (bytes .entry)) start r ⌝ }
 {
     as_read(params_read::read_params(bytes, start))

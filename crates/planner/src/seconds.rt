@@ -1,5 +1,5 @@
 // Seconds and the panel, exported. Serves document 01, "Looking up a rate in a table".
-use answers::seconds::PlannerReading;
+use answers::seconds::PlannerPanelReading;
 use answers::seconds::PlannerSeconds;
 use answers::seconds::as_reading;
 use answers::seconds::as_seconds;
@@ -16,7 +16,12 @@ pub extern "C" fn planner_seconds(rate: u64, buffer: u64, fullness: u64) -> Plan
 
 // The panel reading of a bucket against the driver's limit.
 #[no_mangle]
-pub extern "C" fn planner_panel(rate: u64, buffer: u64, fullness: u64, limit: f64) -> PlannerReading
+pub extern "C" fn planner_panel(
+    rate: u64,
+    buffer: u64,
+    fullness: u64,
+    limit: f64,
+) -> PlannerPanelReading
     ensures { λ r. ⌜ ExportedPanel (bucket rate buffer fullness) limit r ⌝ }
 {
     as_reading(panel::panel(rate, buffer, fullness, limit))

@@ -20,7 +20,7 @@ pub extern "C" fn planner_open_sheet(
 
 // Prints what a sheet comes to, its table or its refusal line, to the front of a lent list of bytes.
 #[no_mangle]
-pub extern "C" fn planner_print_sheet(bytes: &[u8], text: &mut [u8]) -> PlannerText
+pub extern "C" fn planner_sheet_text(bytes: &[u8], text: &mut [u8]) -> PlannerText
     ensures { λ r. ⌜ ExportedPrint (now (bytes .entry)) (now (text .entry)) r (now (text .exit)) ⌝ }
 {
     as_text(print::print_sheet(bytes, text))

@@ -1,10 +1,11 @@
 -- What is printed of a sheet, step by step as the code does it. Definitions: layout/specs/Sheet.antt, specs/Outcome.antt.
 --     table-passed     a recording and rates that were judged have a table, where there is room for it
---     buffers-written, fulls-written    which is what the two lists then have at their front
+--     buffers-written, fullnesses-written    which is what the two lists then have at their front
 --     least-fits       and which fits the room for a text
 --     open-judged      lists with room for every sheet are never the fault in opening one
---     text-refused     so a sheet that does not open prints its refusal line
---     Opens            a sheet that opens: its lists stand at the front of the three, were judged there, and their table is printed
+--     judged-refused   so a sheet that does not open was refused as opening says
+--     text-refused     and prints that line
+--     Opens            a sheet that opens: it passed, its lists stand at the front of the three, were judged there, and their table is printed
 --     opens            it is so of each that opens
 --     print-fits, print-room    the text that was put together, and the room for it in a lent list
 --     print-refused, print-roomy, print-given    what is printed to that list
@@ -46,9 +47,11 @@ use Rattle.sheet.specs.declared.Opened.{Opened}
 use Rattle.sheet.specs.declared.Opened.the-variants.{Sheet, Refused}
 use Rattle.sheet.specs.Outcome.{headOf, openedOf, opened}
 use Rattle.sheet.proofs.OpenLaws.{rooms, head-pictures, head-rates, recording-read, rates-read}
+use Rattle.judgement.specs.Outcome.{judgementOf}
+use Rattle.print.specs.declared.Output.{Output}
 use Rattle.print.specs.declared.Printed.{Printed}
 use Rattle.print.specs.declared.Printed.the-variants as printed-answer
-use Rattle.print.specs.Outcome.{printedOf, printed}
+use Rattle.print.specs.Outcome.{outputOf, printedOf, printed}
 
 -- a recording and rates that were judged
 module _ (k : Recording) (rates : List ℕ) (judged : judgeOutcome k ≡ passed) (counted : rateCountCheck rates ≡ passed) (listed : rateListCheck rates ≡ passed) where
@@ -84,8 +87,8 @@ module _ (k : Recording) (rates : List ℕ) (judged : judgeOutcome k ≡ passed)
       pub buffers-written : b ≡ written l 0 (map (leastBuffer k) rates)
       buffers-written = ap (λ (t : outcomes.Tabled). t .buffers) p ∙ ap (λ j. writtenIf j l 0 (map (leastBuffer k) rates)) table-passed
 
-      pub fulls-written : f ≡ written m 0 (map (leastFullness k) rates)
-      fulls-written = ap (λ (t : outcomes.Tabled). t .fulls) p ∙ ap (λ j. writtenIf j m 0 (map (leastFullness k) rates)) table-passed
+      pub fullnesses-written : f ≡ written m 0 (map (leastFullness k) rates)
+      fullnesses-written = ap (λ (t : outcomes.Tabled). t .fullnesses) p ∙ ap (λ j. writtenIf j m 0 (map (leastFullness k) rates)) table-passed
 
 -- the recording at the front of two lists
 abbrev pub front : (sizes ticks : List ℕ) → Head → Recording
@@ -97,6 +100,7 @@ pub record Opens (bytes sizes ticks rates : List ℕ) (head : Head) : Type 0 whe
   pub ticksFit : (head .pictures ≤ length ticks) × (head .pictures ≡ length (take (head .pictures) ticks))
   pub ratesFit : (head .rates ≤ length rates) × (head .rates ≡ length (take (head .rates) rates))
   pub judged : (judgeOutcome (front sizes ticks head) ≡ passed) × (rateCountCheck (take (head .rates) rates) ≡ passed) × (rateListCheck (take (head .rates) rates) ≡ passed)
+  pub passes : first (sheetFaults bytes) ≡ passed
   pub text : sheetText bytes ≡ leastText (front sizes ticks head) (take (head .rates) rates)
 
 -- lists with room for every sheet
@@ -124,8 +128,8 @@ module _ (bytes l m r : List ℕ) (hl : sheetPicturesMax ≤ length l) (hm : she
     answers : {a : Answer sheet.Head} → opened o sizes ticks rates .answer ≡ a → answerWith (first (openFaults bytes l m r)) (sheet.headOf bytes) ≡ a
     answers e = sym (ap (λ (t : sheet.Opened). t .answer) p) ∙ e
 
-    pub text-refused : (n i : ℕ) → o ≡ Refused n i → sheetText bytes ≡ refusalLine n i
-    text-refused n i e = rw (sym open-judged ∙ answer-refuses _ (sheet.headOf bytes) n i (answers (ap openedOf e)))
+    pub judged-refused : (n i : ℕ) → o ≡ Refused n i → first (sheetFaults bytes) ≡ refused n i
+    judged-refused n i e = sym open-judged ∙ answer-refuses _ (sheet.headOf bytes) n i (answers (ap openedOf e))
 
     module _ (head : Head) (e : o ≡ Sheet head) where
       said : (first (openFaults bytes l m r) ≡ passed) × (headOf head ≡ sheet.headOf bytes)
@@ -169,11 +173,22 @@ module _ (bytes l m r : List ℕ) (hl : sheetPicturesMax ≤ length l) (hm : she
             ticksFit = words-fit bytes (headerBytes + 4 * head .pictures) (head .pictures) m ticks ticks-written;
             ratesFit = words-fit bytes (headerBytes + 8 * head .pictures) (head .rates) r rates rates-written;
             judged = (ap judgeOutcome whole ∙ lists .0, ap rateCountCheck listed ∙ test-false refusal.rate 0 counted, ap rateListCheck listed ∙ lists .1);
+            passes = passes;
             text = rw (passes, whole, listed);
           }
 
+pub text-refused : (bytes : List ℕ) {n i : ℕ} → first (sheetFaults bytes) ≡ refused n i → sheetText bytes ≡ refusalLine n i
+text-refused bytes e = rw e
+
 -- printing to a lent list what was put together
-module _ (bytes text whole₀ whole : List ℕ) (end : ℕ) (put : Put whole₀ 0 (sheetText bytes) whole end) where
+module _ (bytes text whole₀ whole : List ℕ) (o : Output)
+    (said : Put whole₀ 0 (sheetText bytes) whole (o .end) × (judgementOf (o .judged) ≡ first (sheetFaults bytes))) where
+  abbrev end : ℕ
+  end = o .end
+
+  abbrev put : Put whole₀ 0 (sheetText bytes) whole end
+  put = said .0
+
   ends : length (sheetText bytes) ≡ end
   ends = omega (arith, put .1)
 
@@ -194,14 +209,15 @@ module _ (bytes text whole₀ whole : List ℕ) (end : ℕ) (put : Put whole₀ 
     pub print-roomy : 0 + end ≤ length text
     print-roomy = roomCheck-passed text 0 end .0 (print-room ∙ pass)
 
-    pub print-given : {text' : List ℕ} → text' ≡ written text 0 (take end whole) → printed (printed-answer.Text end) text' ≡ printOutcome bytes text
+    pub print-given : {text' : List ℕ} → text' ≡ written text 0 (take end whole) → printed (printed-answer.Text o) text' ≡ printOutcome bytes text
     print-given w =
         let front : take end whole ≡ sheetText bytes = written-front whole₀ whole (sheetText bytes) end (put .0) ends in
-        rw (pass, w, front, ends)
+        rw (pass, w, front, ends, said .1)
 
-pub text-printed : (bytes text₀ text : List ℕ) (v : Printed) (n : ℕ) → printed v text ≡ printOutcome bytes text₀ → v ≡ printed-answer.Text n
-    → (n ≤ length text) × (n ≡ length (take n text))
-text-printed bytes text₀ text v n p e =
+pub text-printed : (bytes text₀ text : List ℕ) (v : Printed) (o : Output) → printed v text ≡ printOutcome bytes text₀ → v ≡ printed-answer.Text o
+    → (o .end ≤ length text) × (o .end ≡ length (take (o .end) text))
+text-printed bytes text₀ text v o p e =
     let room : Judgement = roomCheck text₀ 0 (length (sheetText bytes)) in
-    let (ok, count) = answer-passed room (length (sheetText bytes)) n (sym (ap (λ (t : sheet.Printed). t .answer) p) ∙ ap printedOf e) in
-    written-fits text₀ text (sheetText bytes) n (ap (λ (t : sheet.Printed). t .text) p ∙ ap (λ j. writtenIf j text₀ 0 (sheetText bytes)) ok) count
+    let (ok, same) = answer-passed room (sheet.outputOf bytes) (outputOf o) (sym (ap (λ (t : sheet.Printed). t .answer) p) ∙ ap printedOf e) in
+    written-fits text₀ text (sheetText bytes) (o .end) (ap (λ (t : sheet.Printed). t .text) p ∙ ap (λ j. writtenIf j text₀ 0 (sheetText bytes)) ok)
+    (ap (λ (t : sheet.Output). t .end) same)

@@ -1,5 +1,5 @@
 -- Two outcomes that the promise allows are equal, the bytes afterwards included. Promise: specs/Promises.antt.
---     printedOf-one    no two answers say the same
+--     outputOf-one, printedOf-one    no two answers say the same
 --     print-unique
 -- Assumes nothing.
 use Prim.Native.Nat.{ℕ}
@@ -7,13 +7,20 @@ use native.Mathlib.Omega.{arith}
 use mathlib.Core.Path.{_≡_, sym, ap, _∙_}
 use mathlib.Core.List.{List}
 use Rattle.layout.specs.Sheet as sheet
-use Rattle.print.specs.Outcome.{printedOf}
+use Rattle.judgement.proofs.Unique.{judgementOf-one}
+use Rattle.print.specs.Outcome.{outputOf, printedOf}
 use Rattle.print.specs.Promises.{PrintPromise}
+use Rattle.print.specs.declared.Output.{Output}
 use Rattle.print.specs.declared.Printed.{Printed}
 use Rattle.print.specs.declared.Printed.the-variants as printed
 
+pub outputOf-one : (v w : Output) → outputOf v ≡ outputOf w → v ≡ w
+outputOf-one v w e =
+    let judged = judgementOf-one (v .judged) (w .judged) (ap (λ (o : sheet.Output). o .judged) e) in
+    λ i. record { end = e i .end; judged = judged i }
+
 printedOf-one : (v w : Printed) → printedOf v ≡ printedOf w → v ≡ w
-printedOf-one (printed.Text x) (printed.Text x′) e = cc
+printedOf-one (printed.Text x) (printed.Text x′) e = ap printed.Text (outputOf-one x x′ cc)
 printedOf-one (printed.Text x) (printed.Refused n′ i′) e = let z : _≡_ {A = ℕ} 0 1 = cc in absurd (omega arith)
 printedOf-one (printed.Refused n i) (printed.Text x′) e = let z : _≡_ {A = ℕ} 0 1 = cc in absurd (omega arith)
 printedOf-one (printed.Refused n i) (printed.Refused n′ i′) e = cc

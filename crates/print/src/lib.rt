@@ -8,17 +8,24 @@ ghost use mathlib.Core.Path.{_≡_};
 ghost use Prim.Native.Nat.{_≤_};
 ghost use lib.ListN.{length};
 ghost use Rattle.rules.specs.Limits.{textMax};
-ghost use Rattle.terms.specs.Answers.{passed};
+ghost use Rattle.terms.specs.Answers.{passed, first};
 ghost use Rattle.model.specs.Recording.{recording};
 ghost use Rattle.model.specs.Faults.{rateCountCheck, rateListCheck};
 ghost use Rattle.model.specs.Outcomes.{judgeOutcome};
-ghost use Rattle.layout.specs.Sheet.{leastText, sheetText};
+ghost use Rattle.layout.specs.Sheet.{leastText, sheetText, sheetFaults};
+ghost use Rattle.judgement.specs.Outcome.{judgementOf};
 ghost use Rattle.text.specs.Put.{Put};
 ghost use Rattle.print.specs.Promises.{PrintPromise};
 
-// How many bytes were printed; or a refusal, its number and its place.
+// What is printed of a sheet: where it ends, and how the sheet was judged, passed with its table or refused with the line of that.
+pub struct Output {
+    pub end: usize,
+    pub judged: Judgement,
+}
+
+// What was printed; or a refusal, its number and its place.
 pub enum Printed {
-    Text(usize),
+    Text(Output),
     Refused(u8, usize),
 }
 
@@ -36,37 +43,56 @@ fn put_least(
 {
     let m = rates.len();
     let mut buffers = [0u64; ROWS_MAX];
-    let mut fulls = [0u64; ROWS_MAX];
-    least::table(sizes, ticks, ts, nu, rates, 0, &mut buffers, &mut fulls);
-    text::put_table(rates, &buffers[..m], &fulls[..m], text)
+    let mut fullnesses = [0u64; ROWS_MAX];
+    least::table(
+        sizes,
+        ticks,
+        ts,
+        nu,
+        rates,
+        0,
+        &mut buffers,
+        &mut fullnesses,
+    );
+    text::put_table(rates, &buffers[..m], &fullnesses[..m], text)
 }
 
 // Puts what a sheet prints, its table or its refusal line, at the front of a list with room for every text.
-fn put_sheet(bytes: &[u8], text: &mut [u8]) -> usize
+fn put_sheet(bytes: &[u8], text: &mut [u8]) -> Output
     requires { ⌜ textMax ≤ length (now text) ⌝ }
-    ensures { λ r. ⌜ Put (now (text .entry)) 0 (sheetText (now (bytes .entry))) (now (text .exit)) r ⌝ }
+    ensures { λ r. ⌜ Put (now (text .entry)) 0 (sheetText (now (bytes .entry))) (now (text .exit)) (r .end) × (judgementOf (r .judged) ≡ first (sheetFaults (now (bytes .entry)))) ⌝ }
 {
     let mut sizes = [0u64; SHEET_PICTURES_MAX];
     let mut ticks = [0u64; SHEET_PICTURES_MAX];
     let mut rates = [0u64; ROWS_MAX];
     let sheet = sheet::open_sheet(bytes, &mut sizes, &mut ticks, &mut rates);
     let Opened::Sheet(head) = sheet else {
-        let mut end = 0;
+        let mut line = Output {
+            end: 0,
+            judged: Judgement::Passed,
+        };
         if let Opened::Refused(number, place) = sheet {
-            end = text::put_refusal(number, place, text);
+            line = Output {
+                end: text::put_refusal(number, place, text),
+                judged: Judgement::Refused(number, place),
+            };
         }
-        return end;
+        return line;
     };
     let n = head.pictures;
     let m = head.rates;
-    put_least(
+    let end = put_least(
         &sizes[..n],
         &ticks[..n],
         head.ts,
         head.nu,
         &rates[..m],
         text,
-    )
+    );
+    Output {
+        end,
+        judged: Judgement::Passed,
+    }
 }
 
 // Prints what a sheet comes to, its table or its refusal line, to the front of a lent list of bytes. Refusal 8.
@@ -74,11 +100,12 @@ pub fn print_sheet(bytes: &[u8], text: &mut [u8]) -> Printed
     ensures { λ r. ⌜ PrintPromise (now (bytes .entry)) (now (text .entry)) r (now (text .exit)) ⌝ }
 {
     let mut whole = [0u8; TEXT_MAX];
-    let end = put_sheet(bytes, &mut whole);
+    let output = put_sheet(bytes, &mut whole);
+    let end = output.end;
     let room = judgement::judge_room(text.len(), 0, end);
     if let Judgement::Refused(number, place) = room {
         return Printed::Refused(number, place);
     }
     text::put_bytes(&whole[..end], text, 0);
-    Printed::Text(end)
+    Printed::Text(output)
 }

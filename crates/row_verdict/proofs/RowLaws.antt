@@ -2,6 +2,7 @@
 -- them. Definitions: specs/RowVerdict.antt, coding/specs/Params.antt.
 --     rate-scaled      what the rate of a row is made from is within its ranges
 --     size-scaled      and so is its size
+--     figures-refused, figures-none, figures-given    rate and size: a record that is refused, a row that it does not have, the row's own
 --     record-refused   a record that is refused
 --     row-none         a row that the record does not have
 --     row-refused      a refusal of the recording, the rate or the bucket
@@ -14,7 +15,7 @@ use native.Mathlib.Omega.{arith}
 use mathlib.Core.Path.{_≡_, refl, ap, _∙_}
 use mathlib.Core.Bool.{not}
 use mathlib.Core.List.{[], _∷_}
-use lib.Dec.{eqb}
+use lib.Dec.{ltb, eqb}
 use lib.ListN.{getD}
 use borrow.Author.Tests.{lt-ltb, le-ltb, eq-eqb, ne-eqb}
 use Rattle.rules.specs.Limits.{valueMax, rateShift, sizeShift}
@@ -26,7 +27,7 @@ use Rattle.model.specs.Arrival.{Bucket, Verdict, verdictOf}
 use Rattle.terms.specs.Answers.{Judgement, given, refused, passed, refuseIf, orElse, lowest, first, answerWith}
 use Rattle.model.specs.Faults.{verdictFaults}
 use Rattle.model.specs.Outcomes.{verdictOutcome}
-use Rattle.coding.specs.Params.{Params, paramsJudged}
+use Rattle.coding.specs.Params.{Params, paramsJudged, rowRate, rowSize, paramsRowFaults, paramsRowOutcome}
 use Rattle.row_verdict.specs.RowVerdict.{rowBucket, rowVerdictFaults, rowVerdictOutcome}
 use Rattle.terms.proofs.AnswersLaws.{test-false, test-true, skip, here, none, test, answer-refused, answer-passed}
 use Rattle.model.proofs.FaultsLaws.{verdictFaults-after}
@@ -54,6 +55,22 @@ module _ (p : Params) (row : ℕ) (ok : paramsJudged p ≡ passed) (h : row < p 
       let value = params-values p ok row h .1 in
       let scale = params-scales p ok .1 in
       scaled _ _ _ value (omega (arith, scale)) (rowSize-fits value scale)
+
+-- rate and size of a row
+module _ (p : Params) (row : ℕ) where
+  pub figures-refused : {n i : ℕ} → paramsJudged p ≡ refused n i → paramsRowOutcome p row ≡ refused n i
+  figures-refused e = answer-refused _ (here _ e)
+
+  module _ (ok : paramsJudged p ≡ passed) where
+    row-left : first (paramsRowFaults p row) ≡ first (refuseIf (not (ltb row (p .cpb-cnt))) refusal.rate 0 ∷ [])
+    row-left = skip _ ok
+
+    pub figures-none : p .cpb-cnt ≤ row → paramsRowOutcome p row ≡ refused refusal.rate 0
+    figures-none h = answer-refused _ (row-left ∙ here [] (test-true refusal.rate 0 (ap not (le-ltb row (p .cpb-cnt) h))))
+
+    pub figures-given : row < p .cpb-cnt → paramsRowOutcome p row ≡ given (record { rate = rowRate p row; size = rowSize p row })
+    unfolding first
+    figures-given h = let e = row-left ∙ skip [] (test-false refusal.rate 0 (ap not (lt-ltb row (p .cpb-cnt) h))) in rw e
 
 -- a refusal is given whatever else is judged behind it
 refused-before : {A : Type 0} (j l : Judgement) (x : A) {n i : ℕ} → answerWith j x ≡ refused n i → answerWith (orElse j l) x ≡ refused n i

@@ -1,3 +1,4 @@
 pub mod RowVerdict
 pub mod Rows
+pub mod Outcome
 pub mod Promises

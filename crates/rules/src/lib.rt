@@ -1,6 +1,7 @@
-// Every limit and every refusal number of the planner, each as one constant. Nothing else in the code writes these
-// numbers. Serves document 01, "A recording and its units", "HRD parameter bits" and "When the planner says no".
+// Every limit, every refusal number and every kind of answer of the planner, each as one constant. Nothing else in the code
+// writes these numbers. Serves document 01, "A recording and its units", "HRD parameter bits" and "When the planner says no".
 ghost use mathlib.Core.Path.{_≡_};
+ghost use Rattle.rules.specs.Kinds.{kinds};
 ghost use Rattle.rules.specs.Limits.{limits};
 ghost use Rattle.rules.specs.Refusals.{refusals};
 
@@ -116,5 +117,37 @@ pub fn all_refusals() -> [u8; 13]
         CONSTANT,
         SHEET,
         LIMIT,
+    ]
+}
+
+pub const KIND_REFUSED: u64 = 0;
+
+pub const KIND_GIVEN: u64 = 1;
+
+pub const KIND_HOLDS: u64 = 1;
+
+pub const KIND_LATE: u64 = 2;
+
+pub const KIND_WITHIN: u64 = 1;
+
+pub const KIND_OVER: u64 = 2;
+
+pub const KIND_TABLE: u64 = 1;
+
+pub const KIND_LINE: u64 = 2;
+
+// The constants are the kinds that the definitions name, each at its place in the list.
+pub fn all_kinds() -> [u64; 8]
+    ensures { λ r. ⌜ r ≡ kinds ⌝ }
+{
+    [
+        KIND_REFUSED,
+        KIND_GIVEN,
+        KIND_HOLDS,
+        KIND_LATE,
+        KIND_WITHIN,
+        KIND_OVER,
+        KIND_TABLE,
+        KIND_LINE,
     ]
 }

@@ -57,14 +57,14 @@ fn put_row(rate: u64, buffer: u64, fullness: u64, text: &mut [u8], at: usize) ->
 }
 
 // Puts a whole table: the header line, and the line of each rate.
-pub fn put_table(rates: &[u64], buffers: &[u64], fulls: &[u64], text: &mut [u8]) -> usize
-    requires { ⌜ Room (now text) 0 (tableText (now rates) (now buffers) (now fulls)) × (length (now rates) ≤ length (now buffers)) × (length (now rates) ≤ length (now fulls)) ⌝ }
-    ensures { λ r. ⌜ Put (now (text .entry)) 0 (tableText (now (rates .entry)) (now (buffers .entry)) (now (fulls .entry))) (now (text .exit)) r ⌝ }
+pub fn put_table(rates: &[u64], buffers: &[u64], fullnesses: &[u64], text: &mut [u8]) -> usize
+    requires { ⌜ Room (now text) 0 (tableText (now rates) (now buffers) (now fullnesses)) × (length (now rates) ≤ length (now buffers)) × (length (now rates) ≤ length (now fullnesses)) ⌝ }
+    ensures { λ r. ⌜ Put (now (text .entry)) 0 (tableText (now (rates .entry)) (now (buffers .entry)) (now (fullnesses .entry))) (now (text .exit)) r ⌝ }
 {
     let mut end = put_bytes(b"rate buffer start\n", text, 0);
     let mut i = 0;
     while i < rates.len() {
-        end = put_row(rates[i], buffers[i], fulls[i], text, end);
+        end = put_row(rates[i], buffers[i], fullnesses[i], text, end);
         i += 1;
     }
     end

@@ -19,7 +19,7 @@ pub fn rates() -> Vec<u64> {
     (1..=32).map(|k| k * 100_000).collect()
 }
 
-pub fn table(rec: &Recording, rates: &[u64], buffers: &mut [u64], fulls: &mut [u64]) {
+pub fn table(rec: &Recording, rates: &[u64], buffers: &mut [u64], fullnesses: &mut [u64]) {
     for (k, rate) in rates.iter().enumerate() {
         let (first, mut last) = (rec.ticks[0], rec.ticks[0]);
         let (mut total, mut level, mut buffer, mut fullness) = (0, 0, 0, 0);
@@ -33,6 +33,6 @@ pub fn table(rec: &Recording, rates: &[u64], buffers: &mut [u64], fulls: &mut [u
             last = *tick;
         }
         buffers[k] = buffer.div_ceil(rec.ts);
-        fulls[k] = fullness.div_ceil(rec.ts);
+        fullnesses[k] = fullness.div_ceil(rec.ts);
     }
 }

@@ -1,6 +1,6 @@
 /* Prints every field of an answer of each kind, and of a refusal, of every operation, and what a
  * refused schedule, a refused writing of a record and a refused opening of a sheet leave in their
- * lent lists. */
+ * lent lists; then what is answered where every list that is empty is a null pointer. */
 #include <inttypes.h>
 #include <stdio.h>
 
@@ -42,7 +42,7 @@ static void seconds(const char *name, PlannerSeconds r) {
     printf(" %g %g\n", r.wait, r.fill);
 }
 
-static void reading(const char *name, PlannerReading r) {
+static void reading(const char *name, PlannerPanelReading r) {
     head(name, r.kind, r.number, r.place);
     printf(" %g %g\n", r.wait, r.limit);
 }
@@ -52,7 +52,17 @@ static void position(const char *name, PlannerPosition r) {
     printf(" %" PRIu64 "\n", r.next);
 }
 
-static void record_read(const char *name, PlannerRead r) {
+static void length(const char *name, PlannerLength r) {
+    head(name, r.kind, r.number, r.place);
+    printf(" %" PRIu64 "\n", r.bits);
+}
+
+static void row(const char *name, PlannerRow r) {
+    head(name, r.kind, r.number, r.place);
+    printf(" %" PRIu64 " %" PRIu64 "\n", r.rate, r.size);
+}
+
+static void record_read(const char *name, PlannerParamsRead r) {
     const PlannerParams *p = &r.params;
     head(name, r.kind, r.number, r.place);
     printf(" %" PRIu64 " %zu %" PRIu64 " %" PRIu64, r.next, p->cpb_cnt, p->bit_rate_scale,
@@ -76,7 +86,8 @@ static void sheet_opened(const char *name, PlannerSheet r) {
 
 static void text(const char *name, PlannerText r, const uint8_t *bytes) {
     head(name, r.kind, r.number, r.place);
-    printf(" %" PRIu64 "\n%.*s", r.length, (int)r.length, (const char *)bytes);
+    printf(" %" PRIu64 " %" PRIu64 " %" PRIu64 "\n", r.length, r.sheet_number, r.sheet_place);
+    printf("%.*s", (int)r.length, (const char *)bytes);
 }
 
 static void byte_list(const char *name, const uint8_t *bytes, size_t length) {
@@ -95,6 +106,33 @@ static void list(const char *name, const uint64_t *entries, size_t length) {
     printf("\n");
 }
 
+static void empty_lists(PlannerParams params) {
+    uint64_t entries[4] = {7, 7, 7, 7};
+    uint8_t printed[80];
+
+    judgement("judge", planner_judge(NULL, 0, NULL, 0, 1, 1));
+    judgement("judge", planner_judge(sizes, 4, NULL, 0, 1, 1));
+    verdict("verdict", planner_verdict(NULL, 0, NULL, 0, 1, 1, 300, 900, 500));
+    verdict("schedule", planner_schedule(NULL, 0, NULL, 0, 1, 1, 300, 900, 500, 0, NULL, 0, NULL,
+                                         0));
+    verdict("schedule", planner_schedule(sizes, 4, ticks, 4, 1, 1, 300, 900, 500, 0, NULL, 0, NULL,
+                                         0));
+    bucket("least", planner_least(NULL, 0, NULL, 0, 1, 1, 300));
+    judgement("table", planner_table(NULL, 0, NULL, 0, 1, 1, NULL, 0, 0, NULL, 0, NULL, 0));
+    judgement("table", planner_table(sizes, 4, ticks, 4, 1, 1, NULL, 0, 0, NULL, 0, NULL, 0));
+    judgement("table", planner_table(sizes, 4, ticks, 4, 1, 1, rates, 2, 0, NULL, 0, NULL, 0));
+    bucket("look_up", planner_look_up(NULL, 0, NULL, 0, NULL, 0, 1, 1, 11, 625));
+    position("write_params", planner_write_params(params, NULL, 0, 0));
+    record_read("read_params", planner_read_params(NULL, 0, 0));
+    verdict("row_verdict", planner_row_verdict(NULL, 0, NULL, 0, 1, 1, params, 0, 500));
+    sheet_opened("open_sheet", planner_open_sheet(NULL, 0, NULL, 0, NULL, 0, NULL, 0));
+    sheet_opened("open_sheet", planner_open_sheet(sheet, 64, NULL, 0, NULL, 0, NULL, 0));
+    sheet_opened("open_sheet", planner_open_sheet(sheet, 64, entries, 4, NULL, 0, NULL, 0));
+    list("sizes", entries, 4);
+    text("sheet_text", planner_sheet_text(NULL, 0, printed, 80), printed);
+    text("sheet_text", planner_sheet_text(sheet, 64, NULL, 0), printed);
+}
+
 int main(void) {
     uint64_t first[5] = {7, 7, 7, 7, 7};
     uint64_t second[6] = {8, 8, 8, 8, 8, 8};
@@ -103,6 +141,7 @@ int main(void) {
     uint8_t bytes[8] = {0xff, 0xff, 0xff, 0xff, 0xff, 0xff, 0xff, 0xff};
     PlannerParams params = {2, 1, 3, {4, 5}, {7, 6}, {0, 1}, 23, 22, 21, 24};
 
+    printf("version %" PRIu64 "\n", planner_version());
     judgement("judge", planner_judge(sizes, 4, ticks, 4, 1, 1));
     judgement("judge", planner_judge(sizes, 4, standing, 4, 1, 1));
     judgement("judge", planner_judge(none, 0, none, 0, 1, 1));
@@ -121,7 +160,7 @@ int main(void) {
     bucket("least", planner_least(sizes, 4, ticks, 4, 1, 1, 0));
     judgement("table", planner_table(sizes, 4, ticks, 4, 1, 1, rates, 2, 3, first, 5, second, 6));
     list("buffers", first, 5);
-    list("fulls", second, 6);
+    list("fullnesses", second, 6);
     judgement("table", planner_table(sizes, 4, ticks, 4, 1, 1, none, 1, 0, first, 5, second, 6));
     bucket("look_up", planner_look_up(rates, 2, rows, 2, rows, 2, 1, 1, 11, 625));
     bucket("look_up", planner_look_up(rates, 2, rows, 2, sizes, 2, 1, 1, 65537, 625));
@@ -131,6 +170,10 @@ int main(void) {
     reading("panel", planner_panel(1000, 20000, 10000, 9.5));
     reading("panel", planner_panel(1000, 20000, 10000, -0.0));
     judgement("judge_params", planner_judge_params(params));
+    length("params_length", planner_params_length(params));
+    row("params_row", planner_params_row(params, 0));
+    row("params_row", planner_params_row(params, 1));
+    row("params_row", planner_params_row(params, 2));
     position("write_params", planner_write_params(params, bytes, 8, 3));
     byte_list("bytes", bytes, 8);
     record_read("read_params", planner_read_params(bytes, 8, 3));
@@ -142,6 +185,8 @@ int main(void) {
     verdict("row_verdict", planner_row_verdict(sizes, 4, ticks, 4, 1, 1, params, 2, 500));
     params.cbr_flag[1] = 2;
     judgement("judge_params", planner_judge_params(params));
+    length("params_length", planner_params_length(params));
+    row("params_row", planner_params_row(params, 2));
     position("write_params", planner_write_params(params, bytes, 8, 4));
     byte_list("bytes", bytes, 8);
     bytes[3] = 0xff;
@@ -154,8 +199,10 @@ int main(void) {
     sheet_opened("open_sheet", planner_open_sheet(sheet, 64, second, 6, first, 3, one, 1));
     list("sizes", second, 6);
     list("ticks", first, 5);
-    text("print_sheet", planner_print_sheet(sheet, 64, printed, 80), printed);
-    text("print_sheet", planner_print_sheet(sheet, 63, printed, 80), printed);
-    text("print_sheet", planner_print_sheet(sheet, 64, printed, 29), printed);
+    text("sheet_text", planner_sheet_text(sheet, 64, printed, 80), printed);
+    text("sheet_text", planner_sheet_text(sheet, 63, printed, 80), printed);
+    text("sheet_text", planner_sheet_text(sheet, 64, printed, 29), printed);
+    params.cbr_flag[1] = 1;
+    empty_lists(params);
     return 0;
 }

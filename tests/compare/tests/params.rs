@@ -2,8 +2,8 @@
 //! and every record of hrd.txt.
 
 use planner::{
-    judge_params, read_params, row_verdict, verdict, write_params, Bucket, Params, Recording,
-    Refused, Verdict,
+    judge_params, params_length, params_row, read_params, row_verdict, verdict, write_params,
+    Bucket, Params, Recording, Refused, Row, Verdict,
 };
 
 const WORKED: [u8; 4] = [0x80, 0x6B, 0xDE, 0xF8];
@@ -48,6 +48,77 @@ fn the_worked_record() {
     let mut bytes = [0xFF; 6];
     assert_eq!(write_params(&worked(), &mut bytes, 8), Ok(40));
     assert_eq!(bytes, [0xFF, 0x80, 0x6B, 0xDE, 0xF8, 0xFF]);
+}
+
+#[test]
+fn entries_after_the_rows_are_0_when_read_and_not_compared() {
+    let (read, _) = read_params(&WORKED, 0).unwrap();
+    assert_eq!(read.bit_rate_value_minus1, [0; 32]);
+    assert_eq!(read.cpb_size_value_minus1, [0; 32]);
+    assert_eq!(read.cbr_flag, [0; 32]);
+
+    let changes: [(bool, fn(&mut Params)); 11] = [
+        (true, |p| p.bit_rate_value_minus1[1] = 1),
+        (true, |p| p.cpb_size_value_minus1[31] = 1),
+        (true, |p| p.cbr_flag[1] = 1),
+        (false, |p| p.bit_rate_value_minus1[0] = 1),
+        (false, |p| p.cpb_size_value_minus1[0] = 1),
+        (false, |p| p.cbr_flag[0] = 1),
+        (false, |p| p.cpb_cnt = 2),
+        (false, |p| p.bit_rate_scale = 1),
+        (false, |p| p.cpb_size_scale = 1),
+        (false, |p| p.cpb_removal_delay_length_minus1 = 1),
+        (false, |p| p.time_offset_length = 1),
+    ];
+    for (k, (same, change)) in changes.into_iter().enumerate() {
+        let mut changed = worked();
+        change(&mut changed);
+        assert_eq!(changed == worked(), same, "change {k}");
+    }
+    let mut beyond = longest();
+    beyond.cpb_cnt = usize::MAX;
+    assert_eq!(beyond, beyond.clone());
+    assert_ne!(beyond, longest());
+}
+
+#[test]
+fn the_length_of_a_record() {
+    assert_eq!(params_length(&worked()), Ok(32));
+    assert_eq!(params_length(&longest()), Ok(11 + 8 + 32 * 127 + 20));
+    let mut broken = two_rows();
+    broken.cbr_flag[1] = 2;
+    assert_eq!(params_length(&broken), refused(10, 1));
+    assert_eq!(params_length(&Params::default()), refused(10, 0));
+}
+
+#[test]
+fn rate_and_size_of_a_row() {
+    let row = |rate, size| Ok(Row { rate, size });
+    assert_eq!(params_row(&worked(), 0), row(64, 16));
+    assert_eq!(params_row(&two_rows(), 1), row(128, 16));
+    let largest = row((LARGEST + 1) << 21, (LARGEST - 30) << 19);
+    assert_eq!(params_row(&longest(), 31), largest);
+    for none in [2, 32, usize::MAX] {
+        assert_eq!(params_row(&two_rows(), none), refused(6, 0));
+    }
+    let mut broken = two_rows();
+    broken.cbr_flag[1] = 2;
+    assert_eq!(params_row(&broken, 2), refused(10, 1));
+}
+
+/// What the header warns of: a byte 3 after two bytes 0 belongs to the NAL unit, not to the record.
+#[test]
+fn emulation_prevention_left_in_is_read_as_bits() {
+    let mut params = worked();
+    params.bit_rate_value_minus1[0] = (1 << 27) - 2;
+    let mut bytes = [0; 12];
+    let next = write_params(&params, &mut bytes, 0).unwrap();
+    assert_eq!(bytes[..4], [0x80, 0, 0, 0]);
+    assert_eq!(read_params(&bytes, 0), Ok((params, next)));
+    let sent = [&bytes[..3], &[3], &bytes[3..]].concat();
+    let (read, _) = read_params(&sent, 0).unwrap();
+    assert_ne!(params_row(&read, 0), params_row(&params, 0));
+    assert!(include_str!("../../../include/planner.h").contains("without emulation prevention"));
 }
 
 #[test]

@@ -102,7 +102,7 @@ fn what_is_amiss_is_noticed() {
             "`judgement`: `judgementOf-one`",
             "`numbers`: `judgementOf-one`",
         ),
-        ("`fulls_unspoken` |", "`fulls_spoken` |"),
+        ("`fullnesses_unspoken` |", "`fullnesses_spoken` |"),
     ] {
         assert_eq!(whole.matches(old).count(), 1, "{old}");
         assert_eq!(amiss(&whole.replace(old, new)).len(), 1, "{old} to {new}");

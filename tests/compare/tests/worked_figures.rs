@@ -38,7 +38,7 @@ fn look_up_in(rates: &[u64], figures: &[u64], span: u64, rate: u64) -> Result<Bu
     let rows = Table {
         rates,
         buffers: figures,
-        fulls: figures,
+        fullnesses: figures,
         ts: 1,
         nu: 1,
         span,
@@ -73,11 +73,11 @@ fn least_figures_of_d() {
     ] {
         assert_eq!(least(&D, rate), Ok(bucket(figure, figure)));
     }
-    let (mut buffers, mut fulls) = ([7; 5], [8; 4]);
-    let answer = table(&D, &[250, 500, 1000], 1, &mut buffers, &mut fulls);
+    let (mut buffers, mut fullnesses) = ([7; 5], [8; 4]);
+    let answer = table(&D, &[250, 500, 1000], 1, &mut buffers, &mut fullnesses);
     assert_eq!(answer, Ok(()));
     assert_eq!(buffers, [7, 10250, 7500, 5000, 7]);
-    assert_eq!(fulls, [8, 10250, 7500, 5000]);
+    assert_eq!(fullnesses, [8, 10250, 7500, 5000]);
 }
 
 #[test]
@@ -212,7 +212,7 @@ fn largest_values() {
     let rows = Table {
         rates: &[1, 1 << 27],
         buffers: &[full, full],
-        fulls: &[full, 1],
+        fullnesses: &[full, 1],
         ts: 1,
         nu: 1 << 16,
         span: 1 << 16,
@@ -222,7 +222,7 @@ fn largest_values() {
     let last = Table {
         rates: &[1 << 27],
         buffers: &[full],
-        fulls: &[full],
+        fullnesses: &[full],
         ..rows
     };
     let grown = (1 << 59) + (1 << 36) - (1 << 32);

@@ -32,7 +32,7 @@ pub fn look_up(data: &[u8]) -> Box<dyn Case> {
     let mut rows = Rows {
         rates: Vec::new(),
         buffers: Vec::new(),
-        fulls: Vec::new(),
+        fullnesses: Vec::new(),
         ts: feed.number(1, TS_MAX),
         nu: feed.number(1, NU_MAX),
         span: feed.number(0, SPAN_MAX),
@@ -46,7 +46,7 @@ pub fn look_up(data: &[u8]) -> Box<dyn Case> {
     match shortened % 16 {
         0 => rows.rates.truncate(feed.byte().into()),
         2 => rows.buffers.truncate(feed.byte().into()),
-        3 => rows.fulls.truncate(feed.byte().into()),
+        3 => rows.fullnesses.truncate(feed.byte().into()),
         _ => {}
     }
     Box::new(LookUp { rows, rate })
@@ -58,7 +58,7 @@ fn push_row(feed: &mut Feed, rows: &mut Rows) {
         .push(feed.number(before.wrapping_add(1), RATE_MAX));
     let buffer = feed.number(1, BUFFER_MAX);
     rows.buffers.push(buffer);
-    rows.fulls.push(feed.number(1, buffer));
+    rows.fullnesses.push(feed.number(1, buffer));
 }
 
 /// A rate from one row to the next, from the least rate to the first row, or from the last row to

@@ -189,6 +189,12 @@ fn record_bits(params: &Params) -> Vec<bool> {
     bits
 }
 
+/// The number of bits that writing a record takes.
+pub fn params_length(params: &Params) -> Result<u64, Refused> {
+    judge_params(params)?;
+    Ok(record_bits(params).len() as u64)
+}
+
 /// Writes a record, changing its own bits only, and gives the next bit position. The record is
 /// judged before the room, so a faulty record with a start past the end is 10.
 pub fn write_params(params: &Params, bytes: &mut [u8], position: u64) -> Result<u64, Refused> {

@@ -87,12 +87,23 @@ pub fn open_into(
     Ok(sheet)
 }
 
-/// Prints to the front of a lent list and gives the number of bytes; too little room is 8.
-pub fn print_into(bytes: &[u8], text: &mut [u8]) -> Result<u64, Refused> {
+/// How many bytes of a table were printed, or of a refusal line, with that refusal.
+#[derive(Clone, Copy, Debug, PartialEq, Eq)]
+pub enum Printed {
+    Table(u64),
+    Line(u64, Refused),
+}
+
+/// Prints to the front of a lent list; too little room is 8.
+pub fn print_into(bytes: &[u8], text: &mut [u8]) -> Result<Printed, Refused> {
     let printed = print(bytes);
     judge_room(text.len(), 0, printed.len())?;
     text[..printed.len()].copy_from_slice(printed.as_bytes());
-    Ok(printed.len() as u64)
+    let length = printed.len() as u64;
+    Ok(match open_sheet(bytes) {
+        Ok(_) => Printed::Table(length),
+        Err(refused) => Printed::Line(length, refused),
+    })
 }
 
 /// The whole output of the program for that input, every line ended by a newline, the refusal

@@ -24,11 +24,11 @@ rated-all : (f : ℕ → ℕ) (rates l₀ l : List ℕ) (i : ℕ) → Rated f ra
 rated-all f rates l₀ l i p h g room = filled-all p h g room ∙ ap (written l₀ 0) (sym (map-listOf f rates))
 
 abbrev Inv-loop : tie.InvT-loop
-Inv-loop sizes ticks ts nu rates buffers₀ fulls₀ i₀ buffers fulls i =
-    (i ≤ length rates) × Rated (leastBuffer (recording sizes ticks ts nu)) rates buffers₀ buffers i × Rated (leastFullness (recording sizes ticks ts nu)) rates fulls₀ fulls i
+Inv-loop sizes ticks ts nu rates buffers₀ fullnesses₀ i₀ buffers fullnesses i =
+    (i ≤ length rates) × Rated (leastBuffer (recording sizes ticks ts nu)) rates buffers₀ buffers i × Rated (leastFullness (recording sizes ticks ts nu)) rates fullnesses₀ fullnesses i
 
 abbrev μ-loop : tie.MeasureT-loop
-μ-loop sizes ticks ts nu rates buffers₀ fulls₀ i₀ buffers fulls i = length rates - i
+μ-loop sizes ticks ts nu rates buffers₀ fullnesses₀ i₀ buffers fullnesses i = length rates - i
 
 loop-holds : tie.Need-loop-holds Inv-loop μ-loop
 loop-holds c = (zero-le, filled-none _ _, filled-none _ _)
@@ -50,11 +50,11 @@ mul-buffers c = search needs
 slice-write-buffers : tie.Need-slice-write-buffers Inv-loop μ-loop
 slice-write-buffers c = let p = c .before .before .before .loop .inv .1 in omega (arith, p .same, c .before .before .before .before .before .before .before .before .before .pre .2)
 
-mul-fulls : tie.Need-mul-fulls Inv-loop μ-loop
-mul-fulls c = search needs
+mul-fullnesses : tie.Need-mul-fullnesses Inv-loop μ-loop
+mul-fullnesses c = search needs
 
-slice-write-fulls : tie.Need-slice-write-fulls Inv-loop μ-loop
-slice-write-fulls c = let p = c .before .before .before .loop .inv .2 in omega (arith, p .same, c .before .before .before .before .before .before .before .before .before .pre .3)
+slice-write-fullnesses : tie.Need-slice-write-fullnesses Inv-loop μ-loop
+slice-write-fullnesses c = let p = c .before .before .before .loop .inv .2 in omega (arith, p .same, c .before .before .before .before .before .before .before .before .before .pre .3)
 
 add-i : tie.Need-add-i Inv-loop μ-loop
 add-i c = search needs
@@ -64,8 +64,8 @@ loop-less c = search needs
 
 loop-again : tie.Need-loop-again Inv-loop μ-loop
 loop-again c =
-    let (among, buffers, fulls) = c .before .before .before .loop .inv in
-    (omega arith, filled-more buffers refl (c .least-at .ensures .0), filled-more fulls refl (c .least-at .ensures .1))
+    let (among, buffers, fullnesses) = c .before .before .before .loop .inv in
+    (omega arith, filled-more buffers refl (c .least-at .ensures .0), filled-more fullnesses refl (c .least-at .ensures .1))
 
 same-length : tie.Need-same-length Inv-loop μ-loop
 same-length c = c .before .loop .inv .1 .same
@@ -77,8 +77,8 @@ returns : tie.Need-returns Inv-loop μ-loop
 returns c =
     let a = c .before .before .before .before .before .before .before .args in
     let k = recording (now (a .sizes)) (now (a .ticks)) (a .ts) (a .nu) in
-    let (among, buffers, fulls) = c .before .loop .inv in
-    (rated-all (leastBuffer k) (now (a .rates)) _ _ _ buffers among (c .loop-test .left) (c .before .before .before .before .before .before .before .pre .2), rated-all (leastFullness k) (now (a .rates)) _ _ _ fulls among (c .loop-test .left) (c .before .before .before .before .before .before .before .pre .3))
+    let (among, buffers, fullnesses) = c .before .loop .inv in
+    (rated-all (leastBuffer k) (now (a .rates)) _ _ _ buffers among (c .loop-test .left) (c .before .before .before .before .before .before .before .pre .2), rated-all (leastFullness k) (now (a .rates)) _ _ _ fullnesses among (c .loop-test .left) (c .before .before .before .before .before .before .before .pre .3))
 
 pub fill-spec : {M : Type 1} → statement M
 fill-spec =
@@ -92,8 +92,8 @@ fill-spec =
     least-at-requires
     mul-buffers
     slice-write-buffers
-    mul-fulls
-    slice-write-fulls
+    mul-fullnesses
+    slice-write-fullnesses
     add-i
     loop-less
     loop-again

@@ -11,10 +11,10 @@ use Rattle.lookup.proofs.first_bad_row.Statement.{statement}
 use Rattle.lookup.proofs.first_bad_row.Tie as tie
 
 abbrev Inv-loop : tie.InvT-loop
-Inv-loop buffers fulls i₀ i = (i ≤ length buffers) × NoneBad (badRow buffers fulls) i
+Inv-loop buffers fullnesses i₀ i = (i ≤ length buffers) × NoneBad (badRow buffers fullnesses) i
 
 abbrev μ-loop : tie.MeasureT-loop
-μ-loop buffers fulls i₀ i = length buffers - i
+μ-loop buffers fullnesses i₀ i = length buffers - i
 
 loop-holds : tie.Need-loop-holds Inv-loop μ-loop
 loop-holds c = (search needs, noneBad-zero _)

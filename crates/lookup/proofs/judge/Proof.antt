@@ -7,19 +7,19 @@ use Rattle.terms.specs.Answers.{refuseIf, firstFault, lower}
 use Rattle.model.specs.Lookup.{Table, table}
 use Rattle.model.specs.Faults.{badRow}
 use Rattle.judgement.specs.Outcome.{judgementOf}
-use Rattle.lookup.proofs.JudgeLaws.{lookup-buffers, lookup-fulls, lookup-both}
+use Rattle.lookup.proofs.JudgeLaws.{lookup-buffers, lookup-fullnesses, lookup-both}
 use borrow.Author.Needs.{needs}
 use Rattle.lookup.proofs.judge.Statement.{statement}
 use Rattle.lookup.proofs.judge.Tie as tie
 
 abbrev w : tie.Start → Table
-w s = table (now (s .args .rates)) (now (s .args .buffers)) (now (s .args .fulls)) (s .args .ts) (s .args .nu) (s .args .span)
+w s = table (now (s .args .rates)) (now (s .args .buffers)) (now (s .args .fullnesses)) (s .args .ts) (s .args .nu) (s .args .span)
 
 returns : tie.Need-returns
 returns c = let s = c .before .before .before .before in sym (lookup-buffers (w s) (s .args .rate) (c .if1 .taken))
 
 returns-2 : tie.Need-returns-2
-returns-2 c = let s = c .before .before .before .before .before in sym (lookup-fulls (w s) (s .args .rate) (c .before .if1 .left) (c .if2 .taken))
+returns-2 c = let s = c .before .before .before .before .before in sym (lookup-fullnesses (w s) (s .args .rate) (c .before .if1 .left) (c .if2 .taken))
 
 judge-rate-requires : tie.Need-judge-rate-requires
 judge-rate-requires c κs = search needs
@@ -55,7 +55,7 @@ returns-3 c =
     (c .before .refuse-if .ensures ∙ ap (λ bad. refuseIf bad refusal.clock 0) (c .before .before .is-bad-span .ensures))
     (c .before .before .before .before .judge-rates .ensures)
     (c .before .before .before .before .before .before .before .judge-rate .ensures)
-    (c .before .before .before .before .before .before .judge-rows .ensures ∙ ap (firstFault refusal.bucket (badRow (now (s .args .buffers)) (now (s .args .fulls)))) equal)
+    (c .before .before .before .before .before .before .judge-rows .ensures ∙ ap (firstFault refusal.bucket (badRow (now (s .args .buffers)) (now (s .args .fullnesses)))) equal)
 
 pub judge-spec : {M : Type 1} → statement M
 judge-spec =

@@ -9,12 +9,12 @@ use Rattle.terms.specs.Answers.{given, passed, lowest}
 use Rattle.model.specs.Faults.{lookupFaults}
 use Rattle.terms.proofs.AnswersLaws.{answer-given, answer-refused}
 use Rattle.judgement.specs.Outcome.{judgementOf}
-use Rattle.lookup.proofs.JudgeLaws.{lookup-rate-some, buffers-ready, fulls-ready}
+use Rattle.lookup.proofs.JudgeLaws.{lookup-rate-some, buffers-ready, fullnesses-ready}
 use Rattle.lookup.proofs.look_up.Statement.{statement}
 use Rattle.lookup.proofs.look_up.Tie as tie
 
 abbrev w : tie.Start → Table
-w c = table (now (c .args .rates)) (now (c .args .buffers)) (now (c .args .fulls)) (c .args .ts) (c .args .nu) (c .args .span)
+w c = table (now (c .args .rates)) (now (c .args .buffers)) (now (c .args .fullnesses)) (c .args .ts) (c .args .nu) (c .args .span)
 
 passes : (c : tie.After-enum-told) → lowest (lookupFaults (w (c .before .before .before .before .before .before)) (c .before .before .before .before .before .before .args .rate)) ≡ passed
 passes c = sym (c .before .before .judge .ensures) ∙ ap judgementOf (c .enum-told .given .1)
@@ -39,7 +39,7 @@ figure-requires c κs = (buffers-ready (w (c .before .before .before .before .be
 
 figure-requires-2 : tie.Need-figure-requires-2
 figure-requires-2 c κs =
-    (fulls-ready (w (c .before .before .before .before .before .before .before .before)) (c .before .before .before .before .before .before .before .before .args .rate) (passes (c .before .before)), c .before .rows-up-to .ensures .0, c .before .rows-up-to .ensures .1, lookup-rate-some (w (c .before .before .before .before .before .before .before .before)) (c .before .before .before .before .before .before .before .before .args .rate) (passes (c .before .before)))
+    (fullnesses-ready (w (c .before .before .before .before .before .before .before .before)) (c .before .before .before .before .before .before .before .before .args .rate) (passes (c .before .before)), c .before .rows-up-to .ensures .0, c .before .rows-up-to .ensures .1, lookup-rate-some (w (c .before .before .before .before .before .before .before .before)) (c .before .before .before .before .before .before .before .before .args .rate) (passes (c .before .before)))
 
 returns-2 : tie.Need-returns-2
 returns-2 c =

@@ -13,7 +13,8 @@ use Rattle.plan.proofs.main.Tie as tie
 abbrev text : tie.After-printed → List ℕ
 text c = c .before .before .before .print-sheet .last .1 .0
 
-fits : (c : tie.After-printed) → (c .printed .given .0 .0 ≤ length (text c)) × (c .printed .given .0 .0 ≡ length (take (c .printed .given .0 .0) (text c)))
+fits : (c : tie.After-printed)
+    → (c .printed .given .0 .0 .end ≤ length (text c)) × (c .printed .given .0 .0 .end ≡ length (take (c .printed .given .0 .0 .end) (text c)))
 fits c =
     let read = c .before .before .before .before .before .before .before .read-full in
     text-printed (take (read .result) (read .last .1 .0)) (replicate textMax 0) (text c) _ _

@@ -28,8 +28,9 @@ text c = now (start c .args .text)
 abbrev whole : tie.After-put-sheet → List ℕ
 whole c = c .put-sheet .last .1 .0
 
-fits : (c : tie.After-put-sheet) → (c .put-sheet .result ≤ length (whole c)) × (c .put-sheet .result ≡ length (take (c .put-sheet .result) (whole c)))
-fits c = print-fits (bytes c) (text c) (replicate textMax 0) (whole c) _ (c .put-sheet .ensures)
+fits : (c : tie.After-put-sheet)
+    → (c .put-sheet .result .end ≤ length (whole c)) × (c .put-sheet .result .end ≡ length (take (c .put-sheet .result .end) (whole c)))
+fits c = print-fits (bytes c) (text c) (replicate textMax 0) (whole c) (c .put-sheet .result) (c .put-sheet .ensures)
 
 -- the room for it
 abbrev room : tie.After-put-sheet → Judgement
@@ -38,7 +39,7 @@ room c = roomCheck (text c) 0 (length (sheetText (bytes c)))
 judged : (c : tie.After-judge-room) → judgementOf (c .judge-room .result) ≡ room (c .before .before)
 judged c =
     let p : tie.After-put-sheet = c .before .before in
-    c .judge-room .ensures ∙ print-room (bytes p) (text p) (replicate textMax 0) (whole p) _ (p .put-sheet .ensures)
+    c .judge-room .ensures ∙ print-room (bytes p) (text p) (replicate textMax 0) (whole p) (p .put-sheet .result) (p .put-sheet .ensures)
 
 abbrev ready : tie.After-enum-told → tie.After-put-sheet
 ready c = c .before .before .before .before
@@ -62,7 +63,7 @@ returns : tie.Need-returns
 returns c =
     let j : tie.After-judge-room = c .before .before .before in
     let p : tie.After-put-sheet = j .before .before in
-    print-refused (bytes p) (text p) (replicate textMax 0) (whole p) _ (p .put-sheet .ensures) (sym (judged j) ∙ ap judgementOf (c .before .room .given .1))
+    print-refused (bytes p) (text p) (replicate textMax 0) (whole p) (p .put-sheet .result) (p .put-sheet .ensures) (sym (judged j) ∙ ap judgementOf (c .before .room .given .1))
 
 enum-told : tie.Need-enum-told
 enum-told c = search needs
@@ -77,7 +78,7 @@ put-bytes-requires : tie.Need-put-bytes-requires
 put-bytes-requires c κs =
     let e : tie.After-enum-told = c .before .before in
     let p : tie.After-put-sheet = ready e in
-    omega (arith, fits p .1, print-roomy (bytes p) (text p) (replicate textMax 0) (whole p) _ (p .put-sheet .ensures) (passes e))
+    omega (arith, fits p .1, print-roomy (bytes p) (text p) (replicate textMax 0) (whole p) (p .put-sheet .result) (p .put-sheet .ensures) (passes e))
 
 same-length : tie.Need-same-length
 same-length c = search needs
@@ -87,7 +88,7 @@ returns-2 c =
     let b : tie.After-put-bytes = c .before .before in
     let e : tie.After-enum-told = b .before .before .before in
     let p : tie.After-put-sheet = ready e in
-    print-given (bytes p) (text p) (replicate textMax 0) (whole p) _ (p .put-sheet .ensures) (passes e) (b .put-bytes .ensures .0)
+    print-given (bytes p) (text p) (replicate textMax 0) (whole p) (p .put-sheet .result) (p .put-sheet .ensures) (passes e) (b .put-bytes .ensures .0)
 
 pub print-sheet-spec : {M : Type 1} → statement M
 print-sheet-spec =

@@ -15,7 +15,7 @@ use Rattle.layout.specs.Text.{tableText}
 use Rattle.layout.specs.Sheet.{leastText}
 use Rattle.terms.proofs.NumbersLaws.{written-front, written-fits}
 use Rattle.text.specs.Put.{Put}
-use Rattle.print.proofs.PrintLaws.{rows-few, least-fits, buffers-written, fulls-written}
+use Rattle.print.proofs.PrintLaws.{rows-few, least-fits, buffers-written, fullnesses-written}
 use Rattle.print.proofs.put_least.Statement.{statement}
 use Rattle.print.proofs.put_least.Tie as tie
 
@@ -33,8 +33,8 @@ rates s = now (s .args .rates)
 abbrev buffers : tie.After-table → List ℕ
 buffers c = c .table .last .1 .1 .1 .1 .1 .1 .0
 
-abbrev fulls : tie.After-table → List ℕ
-fulls c = c .table .last .1 .1 .1 .1 .1 .1 .1 .0
+abbrev fullnesses : tie.After-table → List ℕ
+fullnesses c = c .table .last .1 .1 .1 .1 .1 .1 .1 .0
 
 few : (s : tie.Start) → length (rates s) ≤ 32
 few s = rows-few (k s) (rates s) (s .pre .0) (s .pre .1) (s .pre .2)
@@ -47,8 +47,8 @@ module _ (c : tie.After-table) where
   bs : buffers c ≡ written (replicate 32 0) 0 (map (leastBuffer (k s)) (rates s))
   bs = buffers-written (k s) (rates s) (s .pre .0) (s .pre .1) (s .pre .2) (replicate 32 0) (replicate 32 0) (few s) (few s) (c .table .result) _ _ (c .table .ensures)
 
-  fs : fulls c ≡ written (replicate 32 0) 0 (map (leastFullness (k s)) (rates s))
-  fs = fulls-written (k s) (rates s) (s .pre .0) (s .pre .1) (s .pre .2) (replicate 32 0) (replicate 32 0) (few s) (few s) (c .table .result) _ _ (c .table .ensures)
+  fs : fullnesses c ≡ written (replicate 32 0) 0 (map (leastFullness (k s)) (rates s))
+  fs = fullnesses-written (k s) (rates s) (s .pre .0) (s .pre .1) (s .pre .2) (replicate 32 0) (replicate 32 0) (few s) (few s) (c .table .result) _ _ (c .table .ensures)
 
   buffers-front : take (length (rates s)) (buffers c) ≡ map (leastBuffer (k s)) (rates s)
   buffers-front = written-front (replicate 32 0) (buffers c) _ _ bs (length-map (rates s) (leastBuffer (k s)))
@@ -56,14 +56,14 @@ module _ (c : tie.After-table) where
   buffers-fit : (length (rates s) ≤ length (buffers c)) × (length (rates s) ≡ length (take (length (rates s)) (buffers c)))
   buffers-fit = written-fits (replicate 32 0) (buffers c) (map (leastBuffer (k s)) (rates s)) _ bs (length-map (rates s) (leastBuffer (k s)))
 
-  fulls-front : take (length (rates s)) (fulls c) ≡ map (leastFullness (k s)) (rates s)
-  fulls-front = written-front (replicate 32 0) (fulls c) _ _ fs (length-map (rates s) (leastFullness (k s)))
+  fullnesses-front : take (length (rates s)) (fullnesses c) ≡ map (leastFullness (k s)) (rates s)
+  fullnesses-front = written-front (replicate 32 0) (fullnesses c) _ _ fs (length-map (rates s) (leastFullness (k s)))
 
-  fulls-fit : (length (rates s) ≤ length (fulls c)) × (length (rates s) ≡ length (take (length (rates s)) (fulls c)))
-  fulls-fit = written-fits (replicate 32 0) (fulls c) (map (leastFullness (k s)) (rates s)) _ fs (length-map (rates s) (leastFullness (k s)))
+  fullnesses-fit : (length (rates s) ≤ length (fullnesses c)) × (length (rates s) ≡ length (take (length (rates s)) (fullnesses c)))
+  fullnesses-fit = written-fits (replicate 32 0) (fullnesses c) (map (leastFullness (k s)) (rates s)) _ fs (length-map (rates s) (leastFullness (k s)))
 
-  same : tableText (rates s) (take (length (rates s)) (buffers c)) (take (length (rates s)) (fulls c)) ≡ leastText (k s) (rates s)
-  same = rw (buffers-front, fulls-front)
+  same : tableText (rates s) (take (length (rates s)) (buffers c)) (take (length (rates s)) (fullnesses c)) ≡ leastText (k s) (rates s)
+  same = rw (buffers-front, fullnesses-front)
 
   fits : length (leastText (k s) (rates s)) ≤ length (now (s .args .text))
   fits = le-trans (least-fits (k s) (rates s) (s .pre .0) (s .pre .1) (s .pre .2)) (s .pre .3)
@@ -83,16 +83,16 @@ array-share-prefix-buffers c = buffers-fit (c .before .before) .0
 slice-aggregate-put-table : tie.Need-slice-aggregate-put-table
 slice-aggregate-put-table c = buffers-fit (c .before .before .before) .1
 
-array-share-prefix-fulls : tie.Need-array-share-prefix-fulls
-array-share-prefix-fulls c = fulls-fit (c .before .before .before) .0
+array-share-prefix-fullnesses : tie.Need-array-share-prefix-fullnesses
+array-share-prefix-fullnesses c = fullnesses-fit (c .before .before .before) .0
 
 slice-aggregate-put-table-2 : tie.Need-slice-aggregate-put-table-2
-slice-aggregate-put-table-2 c = fulls-fit (c .before .before .before .before) .1
+slice-aggregate-put-table-2 c = fullnesses-fit (c .before .before .before .before) .1
 
 put-table-requires : tie.Need-put-table-requires
 put-table-requires c κs =
     let t : tie.After-table = c .before .before .before .before .before in
-    (omega (arith, ap length (same t), fits t), le-of-eq (buffers-fit t .1), le-of-eq (fulls-fit t .1))
+    (omega (arith, ap length (same t), fits t), le-of-eq (buffers-fit t .1), le-of-eq (fullnesses-fit t .1))
 
 same-length : tie.Need-same-length
 same-length c = search needs
@@ -112,7 +112,7 @@ put-least-spec =
     table-requires
     array-share-prefix-buffers
     slice-aggregate-put-table
-    array-share-prefix-fulls
+    array-share-prefix-fullnesses
     slice-aggregate-put-table-2
     put-table-requires
     same-length

@@ -11,7 +11,9 @@ use lib.ListN.{length, replicate, length-replicate}
 use Rattle.rules.specs.Limits.{sheetPicturesMax, rowsMax}
 use Rattle.rules.specs.Width.{Word}
 use Rattle.layout.specs.Text.{refusalLine}
-use Rattle.layout.specs.Sheet.{sheetText}
+use Rattle.terms.specs.Answers as answers
+use Rattle.terms.specs.Answers.{first}
+use Rattle.layout.specs.Sheet.{sheetFaults, sheetText}
 use Rattle.layout.proofs.TextLaws.{refusalLine-fits}
 use Rattle.text.specs.Put.{Put}
 use Rattle.print.proofs.PrintLaws as print
@@ -42,10 +44,10 @@ room n = le-of-eq (sym (length-replicate {A = ℕ} n 0))
 abbrev refusing : tie.After-sheet3 → tie.After-open-sheet
 refusing c = c .before .before .before .before .before .before .before .before
 
-refused : (c : tie.After-sheet3) → sheetText (bytes (start (refusing c))) ≡ refusalLine (c .sheet3 .given .0 .0) (c .sheet3 .given .0 .1 .0)
+refused : (c : tie.After-sheet3) → first (sheetFaults (bytes (start (refusing c)))) ≡ answers.refused (c .sheet3 .given .0 .0) (c .sheet3 .given .0 .1 .0)
 refused c =
     let o : tie.After-open-sheet = refusing c in
-    print.text-refused (bytes (start o)) (replicate sheetPicturesMax 0) (replicate sheetPicturesMax 0) (replicate rowsMax 0) (room _) (room _) (room _)
+    print.judged-refused (bytes (start o)) (replicate sheetPicturesMax 0) (replicate sheetPicturesMax 0) (replicate rowsMax 0) (room _) (room _) (room _)
     (o .open-sheet .result) (sizes o) (ticks o) (rates o) (o .open-sheet .ensures) _ _ (c .before .before .before .sheet2 .given .1 ∙ c .sheet3 .given .1)
 
 -- where it did
@@ -96,10 +98,11 @@ returns : tie.Need-returns
 returns c =
     let put = c .before .before .put-refusal in
     let a : tie.After-sheet3 = c .before .before .before .before .before in
-    subst (λ xs. Put (now (start (refusing a) .args .text)) 0 xs (put .last .1 .1 .0) (put .result)) (sym (refused a)) (put .ensures)
+    let line : sheetText (bytes (start (refusing a))) ≡ refusalLine (a .sheet3 .given .0 .0) (a .sheet3 .given .0 .1 .0) = print.text-refused (bytes (start (refusing a))) (refused a) in
+    (subst (λ xs. Put (now (start (refusing a) .args .text)) 0 xs (put .last .1 .1 .0) (put .result)) (sym line) (put .ensures), sym (refused a))
 
 returns-2 : tie.Need-returns-2
-returns-2 c = search needs
+returns-2 c = absurd (search needs)
 
 array-share-prefix-sizes : tie.Need-array-share-prefix-sizes
 array-share-prefix-sizes c = facts (c .before) .sizesFit .0
@@ -132,7 +135,7 @@ returns-3 : tie.Need-returns-3
 returns-3 c =
     let put = c .before .before .put-least in
     let a : tie.After-sheet = c .before .before .before .before .before .before .before .before in
-    subst (λ xs. Put (now (start (opening a) .args .text)) 0 xs (put .last .1 .1 .1 .1 .1 .0) (put .result)) (sym (facts a .text)) (put .ensures)
+    (subst (λ xs. Put (now (start (opening a) .args .text)) 0 xs (put .last .1 .1 .1 .1 .1 .0) (put .result)) (sym (facts a .text)) (put .ensures), sym (facts a .passes))
 
 pub put-sheet-spec : {M : Type 1} → statement M
 put-sheet-spec =

@@ -17,28 +17,28 @@ use Rattle.text.proofs.PutLaws.{put-none, put-length, room-then, put-th
 use Rattle.text.proofs.put_table.Statement.{statement}
 use Rattle.text.proofs.put_table.Tie as tie
 
-module _ (rates buffers fulls : List ℕ) where
+module _ (rates buffers fullnesses : List ℕ) where
   -- the line of rate i
   abbrev row : ℕ → List ℕ
-  row i = rowLine (getD rates i 0) (getD buffers i 0) (getD fulls i 0)
+  row i = rowLine (getD rates i 0) (getD buffers i 0) (getD fullnesses i 0)
 
   -- the list l has become l', with the lines of the first i rates from entry at on
   record Begun (l : List ℕ) (at : ℕ) (l' : List ℕ) (m i : ℕ) : Type 0 where
-    room : Room l at (rowLines rates buffers fulls (length rates))
+    room : Room l at (rowLines rates buffers fullnesses (length rates))
     among : i ≤ length rates
-    put : Put l at (rowLines rates buffers fulls i) l' m
+    put : Put l at (rowLines rates buffers fullnesses i) l' m
 
-  begun-none : (l : List ℕ) (at : ℕ) → Room l at (rowLines rates buffers fulls (length rates)) → Begun l at l at 0
+  begun-none : (l : List ℕ) (at : ℕ) → Room l at (rowLines rates buffers fullnesses (length rates)) → Begun l at l at 0
   unfolding rowLines
   begun-none l at room = record { room = room; among = zero-le; put = put-none l at at refl }
 
   module _ (l : List ℕ) (at : ℕ) (l' : List ℕ) (m i : ℕ) (p : Begun l at l' m i) where
-    begun-front : i < length rates → Room l at (rowLines rates buffers fulls i ++ row i)
+    begun-front : i < length rates → Room l at (rowLines rates buffers fullnesses i ++ row i)
     unfolding rowLines
-    begun-front h = omega (arith, p .room, rowLines-mono rates buffers fulls (suc i) (length rates) h)
+    begun-front h = omega (arith, p .room, rowLines-mono rates buffers fullnesses (suc i) (length rates) h)
 
     begun-room : i < length rates → Room l' m (row i)
-    begun-room h = room-then l at (rowLines rates buffers fulls i) (row i) (begun-front h) l' m (p .put)
+    begun-room h = room-then l at (rowLines rates buffers fullnesses i) (row i) (begun-front h) l' m (p .put)
 
     begun-more : i < length rates → (l'' : List ℕ) (n : ℕ) → Put l' m (row i) l'' n → Begun l at l'' n (i + 1)
     unfolding rowLines
@@ -46,27 +46,27 @@ module _ (rates buffers fulls : List ℕ) where
         record {
           room = p .room;
           among = omega arith;
-          put = rw (add-one i) (put-then l at (rowLines rates buffers fulls i) (row i) (begun-front h) l' m (p .put) l'' n put);
+          put = rw (add-one i) (put-then l at (rowLines rates buffers fullnesses i) (row i) (begun-front h) l' m (p .put) l'' n put);
         }
 
-    begun-all : length rates ≤ i → Put l at (rowLines rates buffers fulls (length rates)) l' m
+    begun-all : length rates ≤ i → Put l at (rowLines rates buffers fullnesses (length rates)) l' m
     begun-all h = rw (le-antisymm h (p .among)) (p .put)
 
 abbrev Inv-loop : tie.InvT-loop
-Inv-loop rates buffers fulls text₀ end₀ i₀ text end i = Begun rates buffers fulls text₀ end₀ text end i
+Inv-loop rates buffers fullnesses text₀ end₀ i₀ text end i = Begun rates buffers fullnesses text₀ end₀ text end i
 
 abbrev μ-loop : tie.MeasureT-loop
-μ-loop rates buffers fulls text₀ end₀ i₀ text end i = length rates - i
+μ-loop rates buffers fullnesses text₀ end₀ i₀ text end i = length rates - i
 
 abbrev start : tie.After-put-bytes Inv-loop μ-loop → tie.Start Inv-loop μ-loop
 start c = c .before .before .before .before .before .before .before
 
 abbrev whole : tie.Start Inv-loop μ-loop → List ℕ
-whole s = tableText (now (s .args .rates)) (now (s .args .buffers)) (now (s .args .fulls))
+whole s = tableText (now (s .args .rates)) (now (s .args .buffers)) (now (s .args .fullnesses))
 
 -- the lines behind the header line
 abbrev lines : tie.Start Inv-loop μ-loop → List ℕ
-lines s = rowLines (now (s .args .rates)) (now (s .args .buffers)) (now (s .args .fulls)) (length (now (s .args .rates)))
+lines s = rowLines (now (s .args .rates)) (now (s .args .buffers)) (now (s .args .fullnesses)) (length (now (s .args .rates)))
 
 -- the table, of which rest is left when the list has become l and the next entry is m
 abbrev TableLeft : (s : tie.Start Inv-loop μ-loop) (l : List ℕ) (m : ℕ) (rest : List ℕ) → Type 0

@@ -22,7 +22,7 @@ pub struct LookUp {
 pub struct Rows {
     pub rates: Vec<u64>,
     pub buffers: Vec<u64>,
-    pub fulls: Vec<u64>,
+    pub fullnesses: Vec<u64>,
     pub ts: u64,
     pub nu: u64,
     pub span: u64,
@@ -47,7 +47,7 @@ fn draw_rows(random: &mut XorShift) -> Rows {
         return Rows {
             rates,
             buffers: table.iter().map(|least| least.buffer).collect(),
-            fulls: table.iter().map(|least| least.fullness).collect(),
+            fullnesses: table.iter().map(|least| least.fullness).collect(),
             ts: rec.ts,
             nu: rec.nu,
             span: draws::span(&rec),
@@ -58,13 +58,13 @@ fn draw_rows(random: &mut XorShift) -> Rows {
     } else {
         rates.iter().map(|_| up_to(random, BUFFER_MAX)).collect()
     };
-    let fulls = buffers.iter().map(|&b| up_to(random, b)).collect();
+    let fullnesses = buffers.iter().map(|&b| up_to(random, b)).collect();
     let (ts, nu) = draws::clock(random);
     let any = random.range(0, SPAN_MAX);
     Rows {
         rates,
         buffers,
-        fulls,
+        fullnesses,
         ts,
         nu,
         span: pick(random, &[0, any, SPAN_MAX]),
@@ -94,7 +94,7 @@ impl Case for LookUp {
         let table = planner::Table {
             rates: &self.rows.rates,
             buffers: &self.rows.buffers,
-            fulls: &self.rows.fulls,
+            fullnesses: &self.rows.fullnesses,
             ts: self.rows.ts,
             nu: self.rows.nu,
             span: self.rows.span,
@@ -107,13 +107,13 @@ impl Case for LookUp {
         let Rows {
             rates,
             buffers,
-            fulls,
+            fullnesses,
             ts,
             nu,
             span,
         } = &self.rows;
         let clock = Clock { ts: *ts, nu: *nu };
-        let result = oracle::lookup::look_up(rates, buffers, fulls, clock, *span, self.rate);
+        let result = oracle::lookup::look_up(rates, buffers, fullnesses, clock, *span, self.rate);
         settled(result, |found| bucket(found.buffer, found.fullness)).into()
     }
 }
@@ -124,18 +124,18 @@ fn damage_rows(random: &mut XorShift, rows: &mut Rows) {
         1 => rows.nu = damage::outside(random, NU_MAX),
         2 => rows.span = damage::above(random, SPAN_MAX),
         3 => damage::other_length(random, &mut rows.buffers),
-        4 => damage::other_length(random, &mut rows.fulls),
+        4 => damage::other_length(random, &mut rows.fullnesses),
         5 => {
             let count = pick(random, &[0, RATES_MAX as usize + 1]);
             rows.rates = draws::rising(random, count);
             rows.buffers.resize(count, 1);
-            rows.fulls.resize(count, 1);
+            rows.fullnesses.resize(count, 1);
         }
         6 => damage::set_outside(random, &mut rows.buffers, BUFFER_MAX),
         7 | 8 => {
-            if let Some(i) = damage::place(random, &rows.fulls) {
+            if let Some(i) = damage::place(random, &rows.fullnesses) {
                 let buffer = rows.buffers.get(i).copied().unwrap_or(1);
-                rows.fulls[i] = damage::too_full(random, buffer);
+                rows.fullnesses[i] = damage::too_full(random, buffer);
             }
         }
         _ => damage::rate_list(random, &mut rows.rates),

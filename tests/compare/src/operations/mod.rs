@@ -62,11 +62,13 @@ operations! {
     seconds
     panel
     judge_params
+    params_length
+    params_row
     read_params
     write_params
     row_verdict
     open_sheet
-    print_sheet
+    sheet_text
 }
 
 pub mod plan;

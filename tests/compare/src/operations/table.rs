@@ -36,17 +36,17 @@ impl Case for Table {
     }
 
     fn by_library(&self) -> Outcome {
-        self.lent.lend(|buffers, fulls| {
+        self.lent.lend(|buffers, fullnesses| {
             let (rec, at) = (by_library::recording(&self.rec), self.lent.at);
-            let result = planner::table(&rec, &self.rates, at, buffers, fulls);
+            let result = planner::table(&rec, &self.rates, at, buffers, fullnesses);
             settled(result, passed)
         })
     }
 
     fn by_oracle(&self) -> Outcome {
-        self.lent.lend(|buffers, fulls| {
+        self.lent.lend(|buffers, fullnesses| {
             let (rec, at) = (by_oracle::recording(&self.rec), self.lent.at as u64);
-            let result = oracle::least::table(&rec, &self.rates, at, buffers, fulls);
+            let result = oracle::least::table(&rec, &self.rates, at, buffers, fullnesses);
             settled(result, passed)
         })
     }

@@ -15,6 +15,9 @@ const TYPES: [(&str, &str); 5] = [
     ("Params", "PlannerParams"),
 ];
 
+/// The one definition of the header that is no constant.
+const GUARD: &str = "#define PLANNER_H";
+
 /// What the header has before its declarations, and after them.
 const HEAD: &str = "#ifndef PLANNER_H #define PLANNER_H #include <stddef.h> #include <stdint.h> \
     #ifdef __cplusplus extern \"C\" { #endif ";
@@ -28,9 +31,13 @@ pub fn plain(text: &str) -> String {
     plain
 }
 
-/// A text of C without comments and layout.
+/// A text of C without its constants, comments and layout.
 pub fn plain_c(text: &str) -> String {
-    let (before, rest) = parted(text, "/*");
+    let joined = text.replace("\\\n", " ");
+    let is_constant = |line: &&str| line.starts_with("#define ") && *line != GUARD;
+    let kept: Vec<&str> = joined.lines().filter(|line| !is_constant(line)).collect();
+    let text = kept.join("\n");
+    let (before, rest) = parted(&text, "/*");
     let between = rest.split("/*").map(|part| parted(part, "*/").1);
     let plain = without_layout([before].into_iter().chain(between));
     assert!(!plain.contains("//"), "comments stand between /* and */");
@@ -81,6 +88,8 @@ pub fn by_c(text: &str) -> Declarations {
         } else {
             let (function, after) = parted(rest, "; ");
             let (returned, function) = parted(function, " ");
+            let returned = type_of_c(returned).unwrap_or(returned);
+            let function = function.replace("(void)", "()");
             insert_function(&mut declared, &format!("{function} -> {returned}"), c_typed);
             rest = after;
         }
@@ -113,12 +122,14 @@ fn insert_struct(declared: &mut Declarations, name: &str, fields: impl Iterator<
     insert(declared, name, line);
 }
 
-/// A function by its signature, `name(arguments) -> struct`.
+/// A function by its signature, `name(arguments) -> type`.
 fn insert_function(declared: &mut Declarations, signature: &str, typed: fn(&str) -> String) {
     let (name, rest) = parted(signature, "(");
     let (arguments, returned) = parted(rest, ") -> ");
-    let arguments: Vec<String> = entries(arguments, ',').map(typed).collect();
-    let arguments = arguments.join(", ");
+    let arguments = match arguments {
+        "" => String::new(),
+        some => entries(some, ',').map(typed).collect::<Vec<_>>().join(", "),
+    };
     let line = format!("fn {name}({arguments}) -> {}", word(returned));
     insert(declared, name, line);
 }
