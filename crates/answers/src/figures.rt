@@ -13,7 +13,7 @@ ghost use Rattle.lookup.specs.Outcome.{foundOf};
 ghost use Rattle.answers.specs.Recordings.{judgementAnswer};
 ghost use Rattle.answers.specs.Figures.{bucketAnswer};
 
-// Buffer and start fullness (kind 1), or refused.
+// Buffer and start fullness, or refused.
 #[repr(C)]
 pub struct PlannerBucket {
     pub kind: u64,

@@ -10,7 +10,7 @@ ghost use Rattle.judgement.specs.Outcome.{judgementOf};
 ghost use Rattle.schedule.specs.Outcome.{answerOf};
 ghost use Rattle.answers.specs.Recordings.{judgementAnswer, verdictAnswer};
 
-// Passed (kind 1), or refused.
+// Passed, or refused.
 #[repr(C)]
 pub struct PlannerJudgement {
     pub kind: u64,
@@ -18,7 +18,7 @@ pub struct PlannerJudgement {
     pub place: u64,
 }
 
-// Holds (kind 1), or late (kind 2) with the first late picture and its units, or refused.
+// Holds, or late with the first late picture and its units, or refused.
 #[repr(C)]
 pub struct PlannerVerdict {
     pub kind: u64,

@@ -13,7 +13,7 @@ ghost use Rattle.params_write.specs.Outcome.{lengthOf};
 ghost use Rattle.row_verdict.specs.Outcome.{paramsRowOf};
 ghost use Rattle.answers.specs.Records.{positionAnswer, readAnswer, lengthAnswer, rowAnswer};
 
-// A record and the next bit position (kind 1), or refused, with the record all zero.
+// A record and the next bit position, or refused, with the record all zero.
 #[repr(C)]
 pub struct PlannerParamsRead {
     pub kind: u64,
@@ -23,7 +23,7 @@ pub struct PlannerParamsRead {
     pub params: Params,
 }
 
-// The next bit position (kind 1), or refused.
+// The next bit position, or refused.
 #[repr(C)]
 pub struct PlannerPosition {
     pub kind: u64,
@@ -32,7 +32,7 @@ pub struct PlannerPosition {
     pub next: u64,
 }
 
-// How many bits a record takes (kind 1), or refused.
+// How many bits a record takes, or refused.
 #[repr(C)]
 pub struct PlannerLength {
     pub kind: u64,
@@ -41,7 +41,7 @@ pub struct PlannerLength {
     pub bits: u64,
 }
 
-// Rate and size of a row of a record (kind 1), or refused.
+// Rate and size of a row of a record, or refused.
 #[repr(C)]
 pub struct PlannerRow {
     pub kind: u64,

@@ -9,7 +9,7 @@ ghost use mathlib.Core.Path.{_≡_};
 ghost use Rattle.panel.specs.Outcome.{timedOf, readingOf};
 ghost use Rattle.answers.specs.Seconds.{secondsAnswer, readingAnswer};
 
-// Wait and fill time (kind 1), or refused.
+// Wait and fill time, or refused.
 #[repr(C)]
 pub struct PlannerSeconds {
     pub kind: u64,
@@ -19,7 +19,7 @@ pub struct PlannerSeconds {
     pub fill: f64,
 }
 
-// Within the limit (kind 1, limit 0), over it (kind 2), or refused.
+// Within the limit, which is then 0; over it; or refused.
 #[repr(C)]
 pub struct PlannerPanelReading {
     pub kind: u64,

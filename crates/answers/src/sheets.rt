@@ -12,7 +12,7 @@ ghost use Rattle.sheet.specs.Outcome.{openedOf};
 ghost use Rattle.print.specs.Outcome.{outputOf, printedOf};
 ghost use Rattle.answers.specs.Sheets.{sheetAnswer, textOn, textAnswer};
 
-// How many pictures and rates a sheet has, and its clock (kind 1), or refused.
+// How many pictures and rates a sheet has, and its clock, or refused.
 #[repr(C)]
 pub struct PlannerSheet {
     pub kind: u64,
@@ -24,7 +24,7 @@ pub struct PlannerSheet {
     pub nu: u64,
 }
 
-// How many bytes were printed: of the sheet's table (kind 1), or of the line of its refusal (kind 2), with that refusal's number and
+// How many bytes were printed: of the sheet's table, or of the line of its refusal, with that refusal's number and
 // place; or refused.
 #[repr(C)]
 pub struct PlannerText {

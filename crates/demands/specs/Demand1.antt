@@ -1,7 +1,8 @@
--- Demand 1 about the planner's own answers, as propositions. Proved in proofs/Demand1.antt.
+-- Demand 1 about the planner's own answers, as propositions. Proved in proofs/: Demand1, Printed.
 --     Told    what a struct says is what an outcome says: a refusal its number and place, with zeros and untouched lists
 --     Demand1Judge, Demand1Verdict, Demand1Schedule, Demand1Least, Demand1Table, Demand1Lookup, Demand1Seconds, Demand1Panel,
 --     Demand1Record, Demand1Length, Demand1ParamsRow, Demand1Read, Demand1Write, Demand1Row, Demand1Open, Demand1Print    so does each exported operation, whatever it is handed
+--     Demand1Line    a refusal line is said with the number and place with which the planner's own `open_sheet` refuses that sheet
 -- Assumes nothing.
 use Prim.Native.Nat.{ℕ, _≤_}
 use mathlib.Core.Path.{_≡_}
@@ -18,6 +19,13 @@ use Rattle.row_verdict.specs.RowVerdict.{rowVerdictOutcome}
 use Rattle.layout.specs.Sheet.{openOutcome, printOutcome}
 use Rattle.params.specs.Outcome.{paramsOf}
 use Rattle.params.specs.declared.Params.{Params}
+use Rattle.judgement.specs.declared.Judgement.the-variants as judgement
+use Rattle.sheet.specs.Promises.{OpenPromise}
+use Rattle.sheet.specs.declared.Opened.{Opened}
+use Rattle.sheet.specs.declared.Opened.the-variants as opened
+use Rattle.print.specs.Promises.{PrintPromise}
+use Rattle.print.specs.declared.Output.{Output}
+use Rattle.print.specs.declared.Printed.the-variants as printed
 use Rattle.answers.specs.declared.recordings.PlannerJudgement.{PlannerJudgement}
 use Rattle.answers.specs.declared.recordings.PlannerVerdict.{PlannerVerdict}
 use Rattle.answers.specs.declared.figures.PlannerBucket.{PlannerBucket}
@@ -118,3 +126,10 @@ abbrev pub Demand1Print : Type 0
 Demand1Print =
     (bytes l : List ℕ) (r : PlannerText) (text : List ℕ) → ExportedPrint bytes l r text
     → Told (printOutcome bytes l .answer) (r .kind) (r .number) (r .place) ((r .length ≡ 0) × (r .«sheet_number» ≡ 0) × (r .«sheet_place» ≡ 0) × (text ≡ l))
+
+-- whatever room the opening has
+abbrev pub Demand1Line : Type 0
+Demand1Line =
+    (bytes before text l m o sizes ticks rates : List ℕ) (output : Output) (n i : ℕ) (a : Opened)
+    → PrintPromise bytes before (printed.Text output) text → output .judged ≡ judgement.Refused n i
+    → OpenPromise bytes l m o a sizes ticks rates → a ≡ opened.Refused n i

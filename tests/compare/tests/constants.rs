@@ -9,6 +9,7 @@ use std::collections::BTreeMap;
 const RULES: &str = include_str!("../../../crates/rules/src/lib.rt");
 const VERSION: &str = include_str!("../../../crates/planner/src/version.rt");
 const HEADER: &str = include_str!("../../../include/planner.h");
+const README: &str = include_str!("../../../README.md");
 const REFUSALS: &str = include_str!("../../../rust/src/refusals.rs");
 const WRAPPER: [&str; 2] = [
     include_str!("../../../rust/src/limits.rs"),
@@ -86,9 +87,9 @@ fn of_rules() -> Constants {
 }
 
 /// The header's, without their prefix, with the words behind each.
-fn of_header() -> (Constants, BTreeMap<String, String>) {
+fn of_header(text: &str) -> (Constants, BTreeMap<String, String>) {
     let (mut constants, mut words) = (Constants::new(), BTreeMap::new());
-    let text = HEADER.replace("\\\n", " ");
+    let text = text.replace("\\\n", " ");
     for line in text
         .lines()
         .filter_map(|line| line.strip_prefix("#define "))
@@ -133,12 +134,34 @@ fn of_refusals() -> BTreeMap<String, (u64, String)> {
         .collect()
 }
 
+/// The constants of a header but for the version's.
+fn numbers(text: &str) -> Constants {
+    let (mut header, _) = of_header(text);
+    header.retain(|name, _| !name.starts_with("VERSION"));
+    header
+}
+
 #[test]
 fn the_header_has_those_of_rules() {
-    let (mut header, _) = of_header();
-    header.retain(|name, _| !name.starts_with("VERSION"));
-    assert_eq!(header, of_rules());
-    assert_eq!(header.len(), 20 + 13 + 8);
+    assert_eq!(numbers(HEADER), of_rules());
+    assert_eq!(of_rules().len(), 20 + 13 + 8);
+}
+
+#[test]
+fn a_constant_that_differs_is_noticed() {
+    for (old, new) in [
+        (
+            "PICTURES_MAX UINT64_C(4096) ",
+            "PICTURES_MAX UINT64_C(4097) ",
+        ),
+        ("REFUSAL_TICK 5 ", "REFUSAL_TICK 4 "),
+        ("KIND_LATE 2 ", "KIND_LATE 3 "),
+        ("#define PLANNER_SPAN_MAX ", "#define PLANNER_SPANS_MAX "),
+        ("#define PLANNER_KIND_OVER ", "/* PLANNER_KIND_OVER "),
+    ] {
+        assert!(HEADER.contains(old), "{old}");
+        assert_ne!(numbers(&HEADER.replace(old, new)), of_rules(), "{old}");
+    }
 }
 
 #[test]
@@ -158,7 +181,7 @@ fn the_wrapper_has_those_of_rules() {
 
 #[test]
 fn one_table_of_meanings() {
-    let (_, words) = of_header();
+    let (_, words) = of_header(HEADER);
     for (name, (number, meaning)) in of_refusals() {
         assert_eq!(words[&name], meaning, "{name}");
         let given = planner::refusals::meaning(number as u8);
@@ -194,6 +217,43 @@ fn the_docs_have_those_of_rules() {
     assert_eq!(docs, of_rules());
 }
 
+/// A number with commas between its thousands.
+fn in_words(number: u64) -> String {
+    let digits = number.to_string();
+    let mut words = String::new();
+    for (k, digit) in digits.chars().enumerate() {
+        if k > 0 && (digits.len() - k) % 3 == 0 {
+            words.push(',');
+        }
+        words.push(digit);
+    }
+    words
+}
+
+#[test]
+fn the_readme_states_the_limits() {
+    let words: Vec<&str> = README.split_whitespace().collect();
+    let readme = words.join(" ");
+    let of = |name: &str| of_rules()[name];
+    let pictures = of("PICTURES_MAX");
+    let seconds = pictures / 25;
+    let long = format!("{} minutes and {} seconds", seconds / 60, seconds % 60);
+    for said in [
+        format!(
+            "1 to {} pictures, which at 25 pictures a second are {long}",
+            in_words(pictures)
+        ),
+        format!("at most {} ticks", in_words(of("SPAN_MAX"))),
+        format!(
+            "1 to {} rates of 1 to {} bits",
+            of("ROWS_MAX"),
+            in_words(of("RATE_MAX"))
+        ),
+    ] {
+        assert!(readme.contains(&said), "{said}");
+    }
+}
+
 #[test]
 fn one_version() {
     let mut library = Constants::new();
@@ -201,7 +261,7 @@ fn one_version() {
     let version = library["VERSION"];
     assert_eq!(planner::version(), version);
     assert_eq!(planner::VERSION, version);
-    assert_eq!(of_header().0["VERSION"], version);
+    assert_eq!(of_header(HEADER).0["VERSION"], version);
     let parts = [version / 10_000, version / 100 % 100, version % 100];
     let written = parts.map(|part| part.to_string()).join(".");
     let package = include_str!("../../../rust/Cargo.toml");
