@@ -6,6 +6,7 @@
  *   many entries. For an empty list, of length 0, it may be null: nothing is read or written there.
  * - A list that is written overlaps no other list of the call. Lists that are only read may be one
  *   and the same.
+ * - While a call runs, nothing else writes its lists, nor reads those that it writes.
  * Nothing else is owed: any numbers get an answer.
  *
  * What the caller gets:
@@ -20,9 +21,9 @@
  * otherwise cc -I include program.c libplanner.a. The archive is for Linux on x86-64, needs nothing
  * but memcpy and memset, and may become part of a shared object.
  *
- * Threads: the library keeps nothing, so calls need no lock, as long as no call writes a list that
- * another one uses at the same time. A stack of 192 KiB is enough for every call: the lists of a
- * sheet are there in planner_sheet_text, twice, and in planner_open_sheet, 64 KiB each time.
+ * Threads: the library keeps nothing, so calls need no lock; what is owed about lists holds between
+ * threads too. A stack of 192 KiB is enough for every call: the lists of a sheet are there in
+ * planner_sheet_text, twice, and in planner_open_sheet, 64 KiB each time.
  */
 #ifndef PLANNER_H
 #define PLANNER_H
@@ -63,7 +64,7 @@
 #define PLANNER_REFUSAL_SHEET 12    /* the sheet's header or length is not as it has to be */
 #define PLANNER_REFUSAL_LIMIT 13    /* the panel's limit is no finite number above 0 */
 
-/* Limits. Where the smallest is not named it is 1. */
+/* Limits, of type uint64_t. Where the smallest is not named it is 1. */
 #define PLANNER_PICTURES_MAX UINT64_C(4096)       /* pictures in the lists of a recording */
 #define PLANNER_SHEET_PICTURES_MAX UINT64_C(4096) /* pictures in a sheet */
 #define PLANNER_SIZE_MAX UINT64_C(16777216)       /* bits in one picture */
@@ -135,8 +136,8 @@ typedef struct PlannerPanelReading {
 
 /* A parameter record, by the names of H.264 E.1.2, and that many rows as cpb_cnt says, the first
  * entries of the three lists.
- * CAUTION: cpb_cnt is the number of rows, from 1 to 32, and not cpb_cnt_minus1. Every field whose
- * name ends in _minus1 is as coded: one less than what it stands for.
+ * CAUTION: cpb_cnt is the number of rows, from 1 on, and not cpb_cnt_minus1. Every field whose name
+ * ends in _minus1 is as coded: one less than what it stands for.
  * Entries after the rows are 0 in a record that was read and not looked at in any other. Coded
  * rates rise strictly from row to row and coded sizes do not rise; cbr_flag is 0 or 1.
  * planner_params_row gives rate and size of a row in bits. */
@@ -144,9 +145,9 @@ typedef struct PlannerParams {
     size_t cpb_cnt;
     uint64_t bit_rate_scale;
     uint64_t cpb_size_scale;
-    uint64_t bit_rate_value_minus1[32];
-    uint64_t cpb_size_value_minus1[32];
-    uint64_t cbr_flag[32];
+    uint64_t bit_rate_value_minus1[PLANNER_CPB_CNT_MAX];
+    uint64_t cpb_size_value_minus1[PLANNER_CPB_CNT_MAX];
+    uint64_t cbr_flag[PLANNER_CPB_CNT_MAX];
     uint64_t initial_cpb_removal_delay_length_minus1;
     uint64_t cpb_removal_delay_length_minus1;
     uint64_t dpb_output_delay_length_minus1;
@@ -287,7 +288,8 @@ PlannerJudgement planner_judge_params(PlannerParams params);
  * Refusals: 10, as planner_write_params has it. */
 PlannerLength planner_params_length(PlannerParams params);
 
-/* Gives rate and size of a row of a parameter record, counted from 0.
+/* Gives rate and size of a row of a parameter record, counted from 0. Both may be larger than what
+ * the other operations accept.
  * Refusals: 10 of the record as planner_write_params; then 6 at 0 (no such row). */
 PlannerRow planner_params_row(PlannerParams params, size_t row);
 
@@ -328,7 +330,7 @@ PlannerSheet planner_open_sheet(const uint8_t *bytes, size_t bytes_length, uint6
                                 size_t sizes_length, uint64_t *ticks, size_t ticks_length,
                                 uint64_t *rates, size_t rates_length);
 
-/* Prints to the front of a lent list of bytes what the program prints for a sheet: its table, or
+/* Prints to the front of a lent list of bytes the text of a sheet: its table of least figures, or
  * the line of its refusal, which is then an answer and no refusal of this call. PLANNER_TEXT_MAX
  * bytes are always enough; nothing ends the text but its length.
  * Refusals: 8 (too little room for the text) at 0. */

@@ -10,8 +10,8 @@ fn main() {
         .map(|folder| Path::new(&package).join(folder).join("libplanner.a"));
     let Some(archive) = archives.iter().find(|archive| archive.is_file()) else {
         eprintln!(
-            "neither {} nor {} is there: unpack what scripts/dist packs, or run scripts/test, or \
-             rt staticlib planner, first",
+            "neither {} nor {} is there: unpack what scripts/dist packs, or run scripts/install or \
+             scripts/test first",
             archives[0].display(),
             archives[1].display()
         );

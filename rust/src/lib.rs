@@ -126,18 +126,18 @@ pub enum Reading {
 #[repr(C)]
 #[derive(Clone, Copy, Debug, Default)]
 pub struct Params {
-    /// Number of rows, from 1 to 32.
+    /// Number of rows, from 1 to [`CPB_CNT_MAX`].
     pub cpb_cnt: usize,
     /// Scale of the rates.
     pub bit_rate_scale: u64,
     /// Scale of the sizes.
     pub cpb_size_scale: u64,
     /// Coded rate of each row, strictly rising.
-    pub bit_rate_value_minus1: [u64; 32],
+    pub bit_rate_value_minus1: [u64; CPB_CNT_MAX],
     /// Coded size of each row, not rising.
-    pub cpb_size_value_minus1: [u64; 32],
+    pub cpb_size_value_minus1: [u64; CPB_CNT_MAX],
     /// 1 for a constant rate, else 0.
-    pub cbr_flag: [u64; 32],
+    pub cbr_flag: [u64; CPB_CNT_MAX],
     /// Bits of an initial removal delay, less 1.
     pub initial_cpb_removal_delay_length_minus1: u64,
     /// Bits of a removal delay, less 1.
@@ -362,7 +362,8 @@ pub fn params_length(params: &Params) -> Result<u64, Refused> {
     }
 }
 
-/// Gives rate and size of a row of a parameter record, counted from 0.
+/// Gives rate and size of a row of a parameter record, counted from 0. Both may be larger than what
+/// the other operations accept.
 pub fn params_row(params: &Params, row: usize) -> Result<Row, Refused> {
     // SAFETY: only the record and a number cross, and both are copied.
     let answer = unsafe { boundary::planner_params_row(*params, row) };
@@ -519,7 +520,7 @@ fn kind(kind: u64, number: u64, place: u64, figures: &[u64]) -> Result<u64, Refu
 }
 
 fn refused(number: u64, place: u64) -> Refused {
-    let number = u8::try_from(number).expect("a refusal's number is one of `refusals`");
+    let number = u8::try_from(number).expect("a refusal's number fits a byte");
     Refused { number, place }
 }
 

@@ -235,20 +235,15 @@ fn the_readme_states_the_limits() {
     let words: Vec<&str> = README.split_whitespace().collect();
     let readme = words.join(" ");
     let of = |name: &str| of_rules()[name];
-    let pictures = of("PICTURES_MAX");
-    let seconds = pictures / 25;
-    let long = format!("{} minutes and {} seconds", seconds / 60, seconds % 60);
+    let (pictures, span) = (of("PICTURES_MAX"), of("SPAN_MAX"));
+    let long = |seconds: u64| format!("{} minutes and {} seconds", seconds / 60, seconds % 60);
     for said in [
-        format!(
-            "1 to {} pictures, which at 25 pictures a second are {long}",
-            in_words(pictures)
-        ),
-        format!("at most {} ticks", in_words(of("SPAN_MAX"))),
-        format!(
-            "1 to {} rates of 1 to {} bits",
-            of("ROWS_MAX"),
-            in_words(of("RATE_MAX"))
-        ),
+        format!("1 to {} pictures", in_words(pictures)),
+        format!("at 25 pictures a second are {}", long(pictures / 25)),
+        format!("at most {} ticks", in_words(span)),
+        format!("{} where a tick is a fiftieth of a second", long(span / 50)),
+        format!("1 to {} rates", of("ROWS_MAX")),
+        format!("1 to {} bits per second", in_words(of("RATE_MAX"))),
     ] {
         assert!(readme.contains(&said), "{said}");
     }

@@ -50,12 +50,13 @@ fn texts() -> [String; 3] {
     }
     let limits = rules::limits();
     let rows = limits.iter().find(|limit| limit.0 == "CPB_CNT_MAX");
-    let length = format!("; {}]", rows.unwrap().1);
+    let rows = rows.unwrap().1;
     let header = read_to_string(root.join("include/planner.h")).unwrap();
+    let wrapper = text_below(&root.join("rust/src"), "rs");
     [
-        plain(&rattle).replace("; CPB_CNT_MAX]", &length),
-        plain_c(&header),
-        plain(&text_below(&root.join("rust/src"), "rs")),
+        plain(&rattle).replace("; CPB_CNT_MAX]", &format!("; {rows}]")),
+        plain_c(&header).replace("[PLANNER_CPB_CNT_MAX]", &format!("[{rows}]")),
+        plain(&wrapper).replace("; CPB_CNT_MAX]", &format!("; {rows}]")),
     ]
 }
 

@@ -57,7 +57,7 @@ fn entries_after_the_rows_are_0_when_read_and_not_compared() {
     assert_eq!(read.cpb_size_value_minus1, [0; 32]);
     assert_eq!(read.cbr_flag, [0; 32]);
 
-    let changes: [(bool, fn(&mut Params)); 11] = [
+    let changes: [(bool, fn(&mut Params)); 13] = [
         (true, |p| p.bit_rate_value_minus1[1] = 1),
         (true, |p| p.cpb_size_value_minus1[31] = 1),
         (true, |p| p.cbr_flag[1] = 1),
@@ -67,7 +67,9 @@ fn entries_after_the_rows_are_0_when_read_and_not_compared() {
         (false, |p| p.cpb_cnt = 2),
         (false, |p| p.bit_rate_scale = 1),
         (false, |p| p.cpb_size_scale = 1),
+        (false, |p| p.initial_cpb_removal_delay_length_minus1 = 1),
         (false, |p| p.cpb_removal_delay_length_minus1 = 1),
+        (false, |p| p.dpb_output_delay_length_minus1 = 1),
         (false, |p| p.time_offset_length = 1),
     ];
     for (k, (same, change)) in changes.into_iter().enumerate() {

@@ -8,7 +8,7 @@ use std::fs::{self, Permissions};
 use std::os::unix::fs::{symlink, MetadataExt, PermissionsExt};
 use std::os::unix::process::CommandExt;
 use std::path::{Path, PathBuf};
-use std::process::Command;
+use std::process::{Command, Stdio};
 use std::sync::OnceLock;
 use std::thread;
 
@@ -175,6 +175,17 @@ fn a_write_that_fails() {
         let said = run(shell.arg(script("plan")).arg(sheet_d()));
         plan_fails(&said, 3, "standard output");
     }
+}
+
+#[test]
+fn a_reader_that_has_gone() {
+    let mut command = Command::new(script("plan"));
+    command.arg(sheet_d());
+    command.stdout(Stdio::piped()).stderr(Stdio::piped());
+    let mut child = command.spawn().unwrap();
+    drop(child.stdout.take());
+    let output = child.wait_with_output().unwrap();
+    assert_eq!(output.status.code(), Some(3));
 }
 
 #[test]
@@ -362,6 +373,18 @@ fn a_program_that_has_to_be_built() {
 }
 
 #[test]
+fn a_text_that_is_cut_short() {
+    let checkout = folder("cut_short");
+    small_checkout(&checkout);
+    let cut = "#!/bin/sh\nprintf 'rate buffer start\\n250 10'\n";
+    write_program(&checkout.join("target/bin/plan"), cut);
+    let mut command = Command::new(checkout.join("scripts/plan"));
+    command.env("PATH", path_with_kit(&checkout, 0));
+    let said = run(command.arg("d.sheet").current_dir(checkout));
+    plan_fails(&said, 3, "cut short");
+}
+
+#[test]
 fn a_program_that_is_not_proved_is_not_run() {
     let said = plan_with_kit("not_proved", 1);
     prints(&said, 4, "");
@@ -456,6 +479,16 @@ fn the_installed_library_in_a_shared_object() {
         "seconds.c",
     ];
     compile(&folder, &words, installed());
+    let source = "#include <planner.h>\n#include <stdio.h>\nPlannerSeconds seconds(void);\n\
+                  int main(void) { printf(\"%.1f\", seconds().wait); return 0; }\n";
+    fs::write(folder.join("main.c"), source).unwrap();
+    compile(
+        &folder,
+        &["-o", "main", "main.c", "./seconds.so"],
+        installed(),
+    );
+    let mut main = Command::new(folder.join("main"));
+    assert_eq!(printed(main.current_dir(&folder)), "5.0");
 }
 
 #[test]
@@ -469,6 +502,30 @@ fn what_the_installed_library_leaves_undefined() {
         names.all(|name| ["memcpy", "memset"].contains(&name)),
         "{text}"
     );
+}
+
+/// The sources would be mixed with what is made of them.
+#[test]
+fn an_install_to_the_checkout_itself() {
+    let before = fs::read(root().join("include/planner.h")).unwrap();
+    let said = run(Command::new(script("install")).arg(".").current_dir(root()));
+    fails(&said, 2, "another folder is wanted");
+    assert!(!root().join("lib").exists());
+    assert!(fs::read(root().join("include/planner.h")).unwrap() == before);
+}
+
+#[test]
+fn a_library_that_is_not_proved_is_not_installed() {
+    let checkout = folder("not_installed");
+    let mut copy = Command::new("cp");
+    copy.args(["-p", "--parents", "scripts/install", "scripts/setup"]);
+    printed(copy.arg(&checkout).current_dir(root()));
+    let mut command = Command::new(checkout.join("scripts/install"));
+    command.env("PATH", path_with_kit(&checkout, 1));
+    let said = run(command.arg("tree").current_dir(&checkout));
+    prints(&said, 4, "");
+    assert!(said.err.ends_with("build/staticlib.log\n"), "{said:?}");
+    assert!(!checkout.join("tree/lib/libplanner.a").exists());
 }
 
 #[test]
@@ -486,15 +543,37 @@ fn packed(path: &str) -> PathBuf {
     PathBuf::from(said.out.trim_end())
 }
 
+/// A program of somebody's who has the packed tree below their own workspace.
+fn embedded(tree: &Path, site: &Path) -> String {
+    let name = tree.file_name().unwrap().to_str().unwrap();
+    fs::create_dir_all(site.join("program/src")).unwrap();
+    fs::create_dir(site.join("vendor")).unwrap();
+    fs::rename(tree, site.join("vendor").join(name)).unwrap();
+    let workspace = "[workspace]\nresolver = \"2\"\nmembers = [\"program\"]\n";
+    fs::write(site.join("Cargo.toml"), workspace).unwrap();
+    let package = "[package]\nname = \"program\"\nversion = \"0.1.0\"\nedition = \"2021\"\n";
+    let planner = format!("[dependencies]\nplanner = {{ path = \"../vendor/{name}/rust\" }}\n");
+    fs::write(
+        site.join("program/Cargo.toml"),
+        format!("{package}{planner}"),
+    )
+    .unwrap();
+    let source = "fn main() { println!(\"{}\", planner::version() == planner::VERSION); }\n";
+    fs::write(site.join("program/src/main.rs"), source).unwrap();
+    let mut cargo = Command::new(env!("CARGO"));
+    cargo.args(["run", "--quiet", "--offline", "--package", "program"]);
+    cargo.env("CARGO_TARGET_DIR", site.join("build"));
+    printed(cargo.current_dir(site))
+}
+
 /// Packed twice: with the kit, and, to save its time, with the library that is there then.
 #[test]
 fn the_packed_tree() {
     let archive = packed(&std::env::var("PATH").unwrap());
     let bytes = fs::read(&archive).unwrap();
-    // Below the workspace of this repository.
-    let below = folder("packed");
+    let outside = Outside::new("packed");
     let mut unpack = Command::new("tar");
-    printed(unpack.arg("-xzf").arg(&archive).current_dir(&below));
+    printed(unpack.arg("-xzf").arg(&archive).current_dir(&outside.0));
     assert_eq!(packed(&path_with_kit(&folder("packed_again"), 0)), archive);
     assert!(
         fs::read(&archive).unwrap() == bytes,
@@ -502,7 +581,7 @@ fn the_packed_tree() {
     );
 
     let name = archive.file_name().unwrap().to_str().unwrap();
-    let tree = below.join(name.strip_suffix(".tar.gz").unwrap());
+    let tree = outside.0.join(name.strip_suffix(".tar.gz").unwrap());
     let library = |tree: &Path| fs::read(tree.join("lib/libplanner.a")).unwrap();
     assert!(
         library(&tree) == library(installed()),
@@ -514,4 +593,5 @@ fn the_packed_tree() {
     example.args(["run", "--quiet", "--offline", "--example", "plan_d"]);
     example.env("CARGO_TARGET_DIR", folder("packed_cargo"));
     assert_eq!(printed(example.current_dir(tree.join("rust"))), PLAN_D);
+    assert_eq!(embedded(&tree, &outside.0.join("site")), "true\n");
 }
