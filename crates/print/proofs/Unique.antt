@@ -14,7 +14,7 @@ use Rattle.print.specs.declared.Output.{Output}
 use Rattle.print.specs.declared.Printed.{Printed}
 use Rattle.print.specs.declared.Printed.the-variants as printed
 
-pub outputOf-one : (v w : Output) → outputOf v ≡ outputOf w → v ≡ w
+outputOf-one : (v w : Output) → outputOf v ≡ outputOf w → v ≡ w
 outputOf-one v w e =
     let judged = judgementOf-one (v .judged) (w .judged) (ap (λ (o : sheet.Output). o .judged) e) in
     λ i. record { end = e i .end; judged = judged i }
