@@ -1,7 +1,8 @@
 -- Sheets and their text as the plain structs that C and Rust see: a refusal has its number and place, and all figures 0.
 --     sheetAnswer    how many pictures and rates a sheet has, and its clock
 --     openAnswer     the same with its three lists afterwards
---     textOn         how many bytes were printed, of a table or of the line of a refusal
+--     textBy         how many bytes were printed, of a table or of the line of a refusal, by how the sheet was judged
+--     textOn         the same of what is said of an output
 --     textAnswer     the same, or a refusal
 --     printAnswer    the same with the bytes afterwards
 -- Assumes nothing.

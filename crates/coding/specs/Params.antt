@@ -11,7 +11,7 @@
 --     writeOutcome        writing: the next position or a refusal, and the bytes afterwards
 --     lengthOutcome       how many bits writing it takes, or a refusal
 --     rowRate, rowSize    rate and size of a row
---     Row, paramsRowOutcome    both, or a refusal
+--     Row, paramsRowFaults, paramsRowOutcome    both, what may be wrong, and both or a refusal
 -- Subtraction stops at 0 for a count of 0 alone, whose record is refused before its values count. A verdict asked of a row:
 -- row_verdict/specs/RowVerdict.antt. Laws: proofs/FieldsLaws.antt, proofs/BackLaws.antt. Assumes nothing.
 use Prim.Native.Nat.{ℕ, zero, suc, _+_, _-_, _*_, _^_}

@@ -2,17 +2,16 @@
 -- the refusal of `open_sheet`. Statements: specs/Demand2.antt, specs/Demand1.antt.
 --     demand2-table      a row that was written is what `least` answers at its rate
 --     sheet-promised     a sheet that opened has a recording and rates within the limits, and their table is its text
---     output-promised    what is said of a text is what the sheet comes to, and there was room for it
 --     text-promised      which is what was printed
 --     demand2-print      so its rows are what `least` answers too
 --     demand1-line       a sheet that was refused does not open
 -- Assumes nothing.
 use Prim.Native.Nat.{ℕ, _+_, _≤_, _<_}
-use mathlib.Core.Path.{_≡_, sym, ap, _∙_}
+use mathlib.Core.Path.{_≡_, refl, sym, ap, _∙_}
 use mathlib.Core.List.{List, [], _∷_, map}
 use lib.ListN.{length, getD, take, length-map}
 use Rattle.terms.specs.Numbers.{written}
-use Rattle.terms.specs.Answers.{passed, refused, first, roomCheck}
+use Rattle.terms.specs.Answers.{passed, refused, first}
 use Rattle.terms.proofs.NumbersLaws.{written-at, written-front}
 use Rattle.terms.proofs.AnswersLaws.{orElse-passed, first-passed, first-append, answer-passed, lowest-each, lowest-passed}
 use Rattle.model.specs.Recording.{Recording}
@@ -29,9 +28,8 @@ use Rattle.sheet.proofs.Unique.{open-unique}
 use Rattle.sheet.proofs.OpenLaws.{rooms, head-pictures, head-rates, recording-read, rates-read}
 use Rattle.print.specs.declared.Output.{Output}
 use Rattle.print.specs.declared.Printed.the-variants as printed
-use Rattle.print.specs.Outcome.{outputOf}
 use Rattle.print.specs.Promises.{PrintPromise}
-use Rattle.print.proofs.PrintLaws.{front}
+use Rattle.print.proofs.PrintLaws.{front, output-printed}
 use Rattle.judgement.specs.Outcome.{judgementOf}
 use Rattle.demands.specs.Demand1.{Demand1Line}
 use Rattle.demands.specs.Demand2.{Demand2Table, Demand2Print}
@@ -75,13 +73,9 @@ sheet-promised bytes l m o sizes ticks rates head p =
     rw (whole, listed)
     (sheet-said bytes (orElse-passed (first (sheetFaults bytes)) (first room) .0 (sym (first-append (sheetFaults bytes) room) ∙ ok) .0))
 
-output-promised : (bytes before text : List ℕ) (output : Output) → PrintPromise bytes before (printed.Text output) text
-    → (roomCheck before 0 (length (sheetText bytes)) ≡ passed) × (sheet.outputOf bytes ≡ outputOf output)
-output-promised bytes before text output p = answer-passed _ (sheet.outputOf bytes) (outputOf output) (sym (ap (λ (t : sheet.Printed). t .answer) p))
-
 pub text-promised : (bytes before text : List ℕ) (output : Output) → PrintPromise bytes before (printed.Text output) text → take (output .end) text ≡ sheetText bytes
 text-promised bytes before text output p =
-    let (ok, same) = output-promised bytes before text output p in
+    let (ok, same) = output-printed bytes before text (printed.Text output) output p refl in
     written-front before text (sheetText bytes) (output .end) (ap (λ (t : sheet.Printed). t .text) p ∙ rw ok) (ap (λ (t : sheet.Output). t .end) same)
 
 pub demand2-print : Demand2Print
@@ -98,7 +92,7 @@ demand2-print bytes l m o sizes ticks rates before text head output p q =
 
 pub demand1-line : Demand1Line
 demand1-line bytes before text l m o sizes ticks rates output n i a p said q =
-    let (_, same) = output-promised bytes before text output p in
+    let (_, same) = output-printed bytes before text (printed.Text output) output p refl in
     let refuses : first (sheetFaults bytes) ≡ refused n i = ap (λ (t : sheet.Output). t .judged) same ∙ ap judgementOf said in
     let opens : first (openFaults bytes l m o) ≡ refused n i = first-append (sheetFaults bytes) (rooms bytes l m o) ∙ rw refuses in
     open-unique bytes l m o a (opened.Refused n i) sizes ticks rates l m o q (rw opens) .0

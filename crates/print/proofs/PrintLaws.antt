@@ -4,11 +4,11 @@
 --     least-fits       and which fits the room for a text
 --     open-judged      lists with room for every sheet are never the fault in opening one
 --     judged-refused   so a sheet that does not open was refused as opening says
---     text-refused     and prints that line
 --     Opens            a sheet that opens: it passed, its lists stand at the front of the three, were judged there, and their table is printed
 --     opens            it is so of each that opens
 --     print-fits, print-room    the text that was put together, and the room for it in a lent list
 --     print-refused, print-roomy, print-given    what is printed to that list
+--     output-printed   what the answer says of a text is what the sheet comes to, and there was room for it
 --     text-printed     as many bytes as the answer says stand at that list's front
 -- Assumes nothing.
 use Prim.Native.Nat.{ℕ, _+_, _*_, _≤_}
@@ -33,7 +33,6 @@ use Rattle.model.specs.Outcomes as outcomes
 use Rattle.model.specs.Outcomes.{judgeOutcome, tableOutcome}
 use Rattle.model.proofs.FaultsLaws.{judgeOutcome-within, rateList-within, within-recorded}
 use Rattle.model.proofs.LeastLaws.{leastFullness-buffer, leastBuffer-limit}
-use Rattle.layout.specs.Text.{refusalLine}
 use Rattle.layout.specs.Sheet as sheet
 use Rattle.layout.specs.Sheet.{pictureCount, rateCount, sheetRates, sheetRecording, headerFaults, listFaults, sheetFaults, openFaults, openOutcome, leastText, sheetText, printOutcome}
 use Rattle.layout.proofs.TextLaws.{tableText-fits}
@@ -177,9 +176,6 @@ module _ (bytes l m r : List ℕ) (hl : sheetPicturesMax ≤ length l) (hm : she
             text = rw (passes, whole, listed);
           }
 
-pub text-refused : (bytes : List ℕ) {n i : ℕ} → first (sheetFaults bytes) ≡ refused n i → sheetText bytes ≡ refusalLine n i
-text-refused bytes e = rw e
-
 -- printing to a lent list what was put together
 module _ (bytes text whole₀ whole : List ℕ) (o : Output)
     (said : Put whole₀ 0 (sheetText bytes) whole (o .end) × (judgementOf (o .judged) ≡ first (sheetFaults bytes))) where
@@ -214,10 +210,14 @@ module _ (bytes text whole₀ whole : List ℕ) (o : Output)
         let front : take end whole ≡ sheetText bytes = written-front whole₀ whole (sheetText bytes) end (put .0) ends in
         rw (pass, w, front, ends, said .1)
 
+pub output-printed : (bytes text₀ text : List ℕ) (v : Printed) (o : Output) → printed v text ≡ printOutcome bytes text₀ → v ≡ printed-answer.Text o
+    → (roomCheck text₀ 0 (length (sheetText bytes)) ≡ passed) × (sheet.outputOf bytes ≡ outputOf o)
+output-printed bytes text₀ text v o p e =
+    answer-passed _ (sheet.outputOf bytes) (outputOf o) (sym (ap (λ (t : sheet.Printed). t .answer) p) ∙ ap printedOf e)
+
 pub text-printed : (bytes text₀ text : List ℕ) (v : Printed) (o : Output) → printed v text ≡ printOutcome bytes text₀ → v ≡ printed-answer.Text o
     → (o .end ≤ length text) × (o .end ≡ length (take (o .end) text))
 text-printed bytes text₀ text v o p e =
-    let room : Judgement = roomCheck text₀ 0 (length (sheetText bytes)) in
-    let (ok, same) = answer-passed room (sheet.outputOf bytes) (outputOf o) (sym (ap (λ (t : sheet.Printed). t .answer) p) ∙ ap printedOf e) in
+    let (ok, same) = output-printed bytes text₀ text v o p e in
     written-fits text₀ text (sheetText bytes) (o .end) (ap (λ (t : sheet.Printed). t .text) p ∙ ap (λ j. writtenIf j text₀ 0 (sheetText bytes)) ok)
     (ap (λ (t : sheet.Output). t .end) same)

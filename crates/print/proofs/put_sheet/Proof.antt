@@ -98,7 +98,7 @@ returns : tie.Need-returns
 returns c =
     let put = c .before .before .put-refusal in
     let a : tie.After-sheet3 = c .before .before .before .before .before in
-    let line : sheetText (bytes (start (refusing a))) ≡ refusalLine (a .sheet3 .given .0 .0) (a .sheet3 .given .0 .1 .0) = print.text-refused (bytes (start (refusing a))) (refused a) in
+    let line : sheetText (bytes (start (refusing a))) ≡ refusalLine (a .sheet3 .given .0 .0) (a .sheet3 .given .0 .1 .0) = rw (refused a) in
     (subst (λ xs. Put (now (start (refusing a) .args .text)) 0 xs (put .last .1 .1 .0) (put .result)) (sym line) (put .ensures), sym (refused a))
 
 returns-2 : tie.Need-returns-2
