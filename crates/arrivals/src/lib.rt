@@ -1,4 +1,7 @@
 // The arrivals of a recording that was judged, picture by picture. Serves document 01, "How bits arrive and leave".
+
+#![tactic(auto)]
+
 ghost use Rattle.std.specs.Prelude.{◌≡◌, ◌+◌, ◌-◌, ◌≤◌, max, length, set};
 ghost use Rattle.rules.specs.Limits.{rate_max, bucket_max};
 ghost use Rattle.rules.specs.Width.{Word};
@@ -81,9 +84,9 @@ pub fn run(
     ends: &mut [u64],
 ) -> Seen
     requires { Within (recording sizes.now ticks.now ts nu) × (rate ≤ rate_max) × (buffer ≤ bucket_max) × (fullness ≤ buffer) }
-    ensures result_value { seen_of result ≡ verdict_of (recording sizes.now ticks.now ts nu) (bucket rate buffer fullness) }
-    ensures starts_after { starts.new ≡ filled starts.old (arrival_start (recording sizes.now ticks.now ts nu) (bucket rate buffer fullness)) (length sizes.now) }
-    ensures ends_after { ends.new ≡ filled ends.old (arrival_end (recording sizes.now ticks.now ts nu) (bucket rate buffer fullness)) (length sizes.now) }
+    ensures verdict { seen_of result ≡ verdict_of (recording sizes.now ticks.now ts nu) (bucket rate buffer fullness) }
+    ensures starts_filled { starts.new ≡ filled starts.old (arrival_start (recording sizes.now ticks.now ts nu) (bucket rate buffer fullness)) (length sizes.now) }
+    ensures ends_filled { ends.new ≡ filled ends.old (arrival_end (recording sizes.now ticks.now ts nu) (bucket rate buffer fullness)) (length sizes.now) }
 {
     let lead = ts * fullness;
     let hold = ts * buffer;

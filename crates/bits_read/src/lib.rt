@@ -1,4 +1,7 @@
 // Bits of a lent byte list, most significant first: reading one code, u(n) or ue(v). Serves document 01, "HRD parameter bits".
+
+#![tactic(auto)]
+
 ghost use Rattle.std.specs.Prelude.{◌≡◌, ◌+◌, ◌*◌, ◌^◌, ◌≤◌, ◌<◌, min, length};
 ghost use Rattle.rules.specs.Limits.{bytes_max};
 ghost use Rattle.rules.specs.Width.{word_bits};

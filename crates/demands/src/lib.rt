@@ -1,1 +1,3 @@
 // Function-free: the demands as theorems about the planner's own answers.
+
+#![tactic(auto)]

@@ -1,5 +1,8 @@
 // What judging answers, and how several judgements are taken together: the faults of an operation are a list in its definition and one
 // expression in its code. Serves document 01, "When the planner says no".
+
+#![tactic(auto)]
+
 ghost use Rattle.std.specs.Prelude.{◌≡◌, [], ◌∷◌, ◌+◌, ltb};
 ghost use Rattle.rules.specs.Refusals as refusal;
 ghost use Rattle.terms.specs.Answers.{refuse_if, lower as lower_of, lowest};

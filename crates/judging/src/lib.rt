@@ -1,5 +1,8 @@
 // Judging a recording and its clock, a rate, a list of rates, and a bucket at its rate. Serves document 01, "A recording and its
 // units" and "When the planner says no", refusals 1 to 7.
+
+#![tactic(auto)]
+
 ghost use Rattle.std.specs.Prelude.{◌≡◌, length};
 ghost use Rattle.terms.specs.Answers.{FirstBad, lowest};
 ghost use Rattle.model.specs.Recording.{recording};

@@ -1,5 +1,8 @@
 // The least figures of a recording at one rate, and the table of them over several rates. Serves document 01, "How bits arrive
 // and leave", "Least figures".
+
+#![tactic(auto)]
+
 ghost use Rattle.std.specs.Prelude.{◌≡◌, map, ◌≤◌, length};
 ghost use Rattle.terms.specs.Numbers.{written};
 ghost use Rattle.model.specs.Recording.{recording, Within};

@@ -1,4 +1,7 @@
 // A bucket for any rate, looked up in a table that is handed in. Serves document 01, "Looking up a rate in a table".
+
+#![tactic(auto)]
+
 ghost use Rattle.std.specs.Prelude.{◌≡◌, ◌*◌, ◌≤◌, ◌<◌, length};
 ghost use Rattle.rules.specs.Refusals as refusal;
 ghost use Rattle.rules.specs.Limits.{rate_max, bucket_max, nu_max, span_max, ts_max};

@@ -1,5 +1,8 @@
 // What the pictures of a recording that was judged need at a rate, and the least figures that follow. Serves document 01, "How bits
 // arrive and leave", "Least figures".
+
+#![tactic(auto)]
+
 ghost use Rattle.std.specs.Prelude.{◌≡◌, ◌+◌, ◌≤◌, length};
 ghost use Rattle.rules.specs.Limits.{rate_max};
 ghost use Rattle.rules.specs.Width.{Word};

@@ -1,4 +1,7 @@
 // Small arithmetic that several rooms share. Each function is one definition of terms/specs/Numbers.antt, or one of the language's own.
+
+#![tactic(auto)]
+
 ghost use Rattle.std.specs.Prelude.{◌≡◌, ◌+◌, ◌-◌, ◌≤◌, ◌<◌, max};
 ghost use Rattle.rules.specs.Width.{Word};
 ghost use Rattle.terms.specs.Numbers.{round_up, outside};

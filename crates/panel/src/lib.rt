@@ -1,4 +1,7 @@
 // A bucket at its rate as seconds, and the driver's panel. Serves document 01, "Looking up a rate in a table".
+
+#![tactic(auto)]
+
 ghost use Rattle.std.specs.Prelude.{◌≡◌, ◌≤◌, ◌^◌};
 ghost use Rattle.model.specs.Arrival.{bucket};
 ghost use Rattle.model.specs.Panel.{quotient as quotient_of, bad_limit};

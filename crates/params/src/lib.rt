@@ -1,5 +1,8 @@
 // HRD parameter records: their fields, in the order of H.264 E.1.2, their values, and judging them. Serves document 01, "HRD
 // parameter bits".
+
+#![tactic(auto)]
+
 ghost use Rattle.std.specs.Prelude.{◌≡◌, ◌+◌, ◌-◌, ◌*◌, ◌≤◌, ◌<◌, get_or};
 ghost use Rattle.rules.specs.Limits.{cpb_cnt_max};
 ghost use Rattle.coding.specs.Fields.{fields_of, cpb_cnt_minus1, place_of};
@@ -16,7 +19,7 @@ pub const VALUES_MAX: usize = 3 + 3 * CPB_CNT_MAX + 4;
 
 // A parameter record: its count of rows and that many rows, by the standard's names. cbr_flag is 0 or 1.
 #[repr(C)]
-#[derive(Drop)]
+#[derive(Clone, Copy)]
 pub struct Params {
     pub cpb_cnt: usize,
     pub bit_rate_scale: u64,
@@ -39,7 +42,7 @@ pub enum Position {
 
 // A field: u(width), or ue(v) where width is 0; its largest value; its rule, 1 to rise and 2 not to rise from row to row;
 // and its row counted from 1, or 0 where it stands alone.
-#[derive(Drop)]
+#[derive(Clone, Copy)]
 pub struct Field {
     pub width: u64,
     pub most: u64,

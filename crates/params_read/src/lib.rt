@@ -1,4 +1,7 @@
 // Reading a parameter record, field by field. Serves document 01, "HRD parameter bits".
+
+#![tactic(auto)]
+
 ghost use Rattle.std.specs.Prelude.{◌≡◌, [], ◌∷◌, ◌+◌, ◌-◌, ◌*◌, ◌≤◌, length, get_or, take};
 ghost use Rattle.rules.specs.Limits.{cpb_cnt_max, length_width};
 ghost use Rattle.bits_read.specs.Outcome.{read_of};

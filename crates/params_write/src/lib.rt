@@ -1,4 +1,7 @@
 // Writing a parameter record, field by field, and how many bits that takes. Serves document 01, "HRD parameter bits".
+
+#![tactic(auto)]
+
 ghost use Rattle.std.specs.Prelude.{◌≡◌, ◌+◌, ◌*◌, ◌^◌, ◌≤◌, ◌<◌, length};
 ghost use Rattle.rules.specs.Limits.{length_width, value_max};
 ghost use Rattle.terms.specs.Answers.{passed};
@@ -58,8 +61,8 @@ pub fn length_of(params: Params) -> Length
 
 // Writes a value in a field's code at position p and gives the next position.
 fn write_field(bytes: &mut [u8], p: u64, field: Field, v: u64) -> u64
-    requires v_le_most { (v ≤ field.most) × (field.most ≤ value_max) × (field.width ≤ length_width) }
-    requires v_bound { (p + length (code_bits (code_of field.width) v) ≤ 8 * length bytes.old) × (p + length (code_bits (code_of field.width) v) ≤ 2 ^ 32) }
+    requires in_range { (v ≤ field.most) × (field.most ≤ value_max) × (field.width ≤ length_width) }
+    requires room { (p + length (code_bits (code_of field.width) v) ≤ 8 * length bytes.old) × (p + length (code_bits (code_of field.width) v) ≤ 2 ^ 32) }
     ensures { (result ≡ p + length (code_bits (code_of field.width) v)) × (bytes.new ≡ put_bits bytes.old p (code_bits (code_of field.width) v)) }
 {
     let next = p + field_length(field, v);
@@ -73,8 +76,8 @@ fn write_field(bytes: &mut [u8], p: u64, field: Field, v: u64) -> u64
 
 // Writes a record that was judged, at a position with room for it, and gives the next position.
 fn write_fields(params: Params, bytes: &mut [u8], start: u64) -> u64
-    requires params_value { params_judged (params_of params) ≡ passed }
-    requires params_bound { (start + length (params_bits (params_of params)) ≤ 8 * length bytes.old) × (start + length (params_bits (params_of params)) ≤ 2 ^ 32) }
+    requires judged { params_judged (params_of params) ≡ passed }
+    requires room { (start + length (params_bits (params_of params)) ≤ 8 * length bytes.old) × (start + length (params_bits (params_of params)) ≤ 2 ^ 32) }
     ensures { (result ≡ start + length (params_bits (params_of params))) × (bytes.new ≡ put_bits bytes.old start (params_bits (params_of params))) }
 {
     let n = params.cpb_cnt;

@@ -1,5 +1,8 @@
 // The program: reads a sheet from standard input and prints its table, or its refusal line. Serves document 01, "The sheet and
 // the printed table".
+
+#![tactic(auto)]
+
 use print::Printed;
 use rules::{SHEET_BYTES_MAX, TEXT_MAX};
 

@@ -1,4 +1,7 @@
 // The text that is printed of a sheet. Serves document 01, "The sheet and the printed table".
+
+#![tactic(auto)]
+
 ghost use Rattle.std.specs.Prelude.{◌≡◌, ◌≤◌, length};
 ghost use Rattle.rules.specs.Limits.{text_max};
 ghost use Rattle.terms.specs.Answers.{passed, first};

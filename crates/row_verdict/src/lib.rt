@@ -1,5 +1,8 @@
 // A row of a parameter record: its rate and size, and the verdict of a start fullness and the row. Serves document 01, "HRD parameter
 // bits".
+
+#![tactic(auto)]
+
 ghost use Rattle.std.specs.Prelude.{◌≡◌, ◌+◌, ◌*◌, ◌^◌, get_or};
 ghost use Rattle.model.specs.Recording.{recording};
 ghost use Rattle.row_verdict.specs.Rows.{Scaled};

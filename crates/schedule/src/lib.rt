@@ -1,4 +1,7 @@
 // Arrival schedules and the verdict on a bucket. Serves document 01, "How bits arrive and leave".
+
+#![tactic(auto)]
+
 ghost use Rattle.std.specs.Prelude.{◌≡◌};
 ghost use Rattle.terms.specs.Answers.{given, lowest};
 ghost use Rattle.model.specs.Recording.{recording};

@@ -1,4 +1,7 @@
 // Opening a sheet's bytes. Serves document 01, "The sheet and the printed table".
+
+#![tactic(auto)]
+
 ghost use Rattle.std.specs.Prelude.{◌≡◌, ◌≤◌, length};
 ghost use Rattle.rules.specs.Limits.{header_bytes, sheet_pictures_max, rows_max};
 ghost use Rattle.terms.specs.Answers.{passed, lowest, first, answer_with};
@@ -11,7 +14,7 @@ use judgement::Judgement;
 use rules::{HEADER_BYTES, PICTURES, RATE, ROWS_MAX, SHEET, SHEET_PICTURES_MAX};
 
 // What an opened sheet says beside its lists: how many pictures and rates, and the clock.
-#[derive(Drop)]
+#[derive(Clone, Copy)]
 pub struct Head {
     pub pictures: usize,
     pub rates: usize,

@@ -1,1 +1,2 @@
 mod PutLaws
+mod RowsLaws

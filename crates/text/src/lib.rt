@@ -1,5 +1,8 @@
 // Text into a lent list of bytes: numbers in decimal, the line of a refusal, the lines of a table. Each function answers the
 // entry behind what it put. Serves document 01, "The sheet and the printed table".
+
+#![tactic(auto)]
+
 ghost use Rattle.std.specs.Prelude.{◌≤◌, length};
 ghost use Rattle.layout.specs.Text.{decimal, refusal_line, row_line, table_text};
 ghost use Rattle.text.specs.Put.{Room, Put};

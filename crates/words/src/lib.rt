@@ -1,4 +1,7 @@
 // Words of 32 bits in a list of bytes, the lowest byte first. Serves document 01, "The sheet and the printed table".
+
+#![tactic(auto)]
+
 ghost use Rattle.std.specs.Prelude.{◌≡◌, ◌+◌, ◌*◌, ◌^◌, ◌≤◌, ◌<◌, length};
 ghost use Rattle.terms.specs.Numbers.{written};
 ghost use Rattle.terms.specs.Words.{word_at, words_at};

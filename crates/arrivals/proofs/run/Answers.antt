@@ -1,0 +1,33 @@
+-- `arrivals::run` meets its contract. The loop's invariant: the line is free from the last end on, what was seen is the verdict on the pictures
+-- passed, and both lists are filled with their starts and ends. The measure is what is left of the pictures. Assumes nothing.
+use Prim.Native.Nat.{◌-◌}
+use native.Mathlib.Omega.{arith}
+use borrow.Author.Rules.{rules}
+use lib.ListN.{length}
+use Rattle.model.specs.Recording.{recording}
+use Rattle.model.specs.Arrival.{bucket, arrival_start, arrival_end}
+use Rattle.terms.proofs.FilledLaws.{Filled, filled-none, filled-more, filled-done}
+use Rattle.arrivals.proofs.RunLaws.{Running, begun, lead-fit, hold-fit, fall-fit, rises, ticks-fit, removal-fit, bits-fit, end-fit, arrives, next, done}
+use Rattle.arrivals.proofs.run.Goals as goal
+
+pub loop-i-init : goal.loop-i-init
+loop-i-init c = (
+  begun _ _ c.requires,
+  filled-none _ _,
+  filled-none _ _,
+)
+
+pub overflow_sub-ticks : goal.overflow_sub-ticks
+overflow_sub-ticks c = rises c.loop-i.invariant.0 (omega arith)
+
+pub arrive-a-requires : goal.arrive-a-requires
+arrive-a-requires c = end-fit c.loop-i.invariant.0 (omega arith)
+
+pub loop-i-preserved : goal.loop-i-preserved
+loop-i-preserved c =
+    let (running, starts, ends) = c.loop-i.invariant in
+    let a = arrives running c.arrive-a.ensures in (
+      next running (omega arith) a c.noted-seen.ensures,
+      filled-more starts c.store.ensures a.start,
+      filled-more ends c.store-in-loop-i.ensures a.end,
+    )

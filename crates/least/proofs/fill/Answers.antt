@@ -1,0 +1,34 @@
+-- `least::fill` meets its contract. The loop's invariant: each list begins with its figures at the rates passed, and what stands
+-- behind them is as it was. The measure is what is left of the list of rates.
+-- Assumes nothing.
+use Prim.Native.Nat.{ℕ, ◌-◌, ◌≤◌, zero-le}
+use native.Mathlib.Omega.{arith}
+use mathlib.Core.Path.{◌≡◌, refl, sym, ap, ◌∙◌}
+use mathlib.Core.List.{List, map}
+use borrow.Author.Rules.{rules}
+use lib.ListN.{length, get_or}
+use Rattle.terms.specs.Numbers.{written}
+use Rattle.model.specs.Recording.{recording}
+use Rattle.model.specs.Least.{least_buffer, least_fullness}
+use Rattle.terms.proofs.NumbersLaws.{map-list_of}
+use Rattle.terms.proofs.FilledLaws.{Filled, filled-none, filled-more, filled-all}
+use Rattle.least.proofs.fill.Invariants.{Rated}
+use Rattle.least.proofs.fill.Goals as goal
+
+rated-all : (f : ℕ → ℕ) (rates l₀ l : List ℕ) (i : ℕ) → Rated f rates l₀ l i → i ≤ length rates → length rates ≤ i → length rates ≤ length l₀ → l ≡ written l₀ 0 (map f rates)
+rated-all f rates l₀ l i p h g room = filled-all p h g room ∙ ap (written l₀ 0) (sym (map-list_of f rates))
+
+pub loop-i-init : goal.loop-i-init
+loop-i-init c = (zero-le, filled-none _ _, filled-none _ _)
+
+pub loop-i-preserved : goal.loop-i-preserved
+loop-i-preserved c =
+    let (among, buffers, fullnesses) = c.loop-i.invariant in
+    (omega arith, filled-more buffers refl c.least_at-b.ensures.0, filled-more fullnesses refl c.least_at-b.ensures.1)
+
+pub returns : goal.returns
+returns c =
+    let a = c.args in
+    let k = recording a.sizes.now a.ticks.now a.ts a.nu in
+    let (among, buffers, fullnesses) = c.loop-i.invariant in
+    (rated-all (least_buffer k) a.rates.now _ _ _ buffers among c.loop-i-test.false c.requires.2, rated-all (least_fullness k) a.rates.now _ _ _ fullnesses among c.loop-i-test.false c.requires.3)

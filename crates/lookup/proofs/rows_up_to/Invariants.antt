@@ -1,0 +1,24 @@
+-- `lookup::rows_up_to` meets its contract. The loop's invariant: no row from i on is at or below the rate, so the answer is that of the
+-- first i rows. The measure is i.
+-- Assumes nothing.
+use native.Mathlib.Omega.{arith}
+use borrow.Author.Rules.{rules}
+use Prim.Native.Nat.{ℕ, zero, suc, ◌-◌, ◌≤◌, ◌<◌}
+use native.Mathlib.Nat.{le_trans, not-suc-le-zero, sub-le}
+use native.Mathlib.Numerals.{sub-one}
+use mathlib.Core.Path.{◌≡◌, refl, sym, ap, ◌∙◌}
+use mathlib.Core.List.{List}
+use lib.ListN.{length, get_or}
+use borrow.Author.Tests.{le-leb, lt-leb}
+use Rattle.model.specs.Lookup.{rows_up_to}
+use Rattle.lookup.proofs.rows_up_to.Given as goal
+
+pub record Left (rates : List ℕ) (rate i : ℕ) : Type 0 where
+  pub within : i ≤ length rates
+  pub same : rows_up_to rates rate (length rates) ≡ rows_up_to rates rate i
+
+abbrev pub invariant-loop-i : goal.invariant-loop-i
+invariant-loop-i l = Left l.rates l.rate l.i
+
+abbrev pub decreases-loop-i : goal.decreases-loop-i
+decreases-loop-i l = l.i

@@ -1,0 +1,33 @@
+-- `needs::measure` meets its contract. The loop's invariant: it holds what the pictures passed need, and `last` is the
+-- tick before the next one. The measure is what is left of the list of sizes.
+-- Assumes nothing.
+use Prim.Native.Nat.{ℕ, ◌+◌, ◌-◌, ◌*◌, ◌≤◌, ◌<◌, zero-le}
+use native.Mathlib.Nat.{le_refl, le_antisymm}
+use native.Mathlib.Omega.{arith}
+use mathlib.Core.Path.{◌≡◌, refl, sym, ap, ◌∙◌}
+use borrow.Author.Rules.{rules}
+use lib.ListN.{length}
+use Rattle.rules.specs.Limits.{span_max, rate_max, bucket_max}
+use Rattle.rules.specs.Width.{Word}
+use Rattle.rules.proofs.Fits.{units-fits, tick_units-fits}
+use Rattle.model.specs.Recording.{Recording, Within, recording, pictures, size, tick}
+use Rattle.model.specs.Needs.{Needs, needs_step, tick_before, needs_below}
+use Rattle.model.proofs.RecordingLaws.{within-near}
+use Rattle.model.proofs.FaultsLaws.{within-recorded}
+use Rattle.model.proofs.NeedsLaws.{tick_before-more, tick_before-between, needs_below-more, needs_below-covers, needs_below-limit}
+use Rattle.needs.specs.Outcome.{needs_of}
+use Rattle.needs.proofs.measure.Given as goal
+
+-- what is known of the pictures passed
+pub record Measured (k : Recording) (rate last : ℕ) (m : Needs) (i : ℕ) : Type 0 where
+  pub kept : Within k
+  pub low : rate ≤ rate_max
+  pub among : i ≤ pictures k
+  pub before : last ≡ tick_before k i
+  pub needed : m ≡ needs_below k rate i
+
+abbrev pub invariant-loop-i : goal.invariant-loop-i
+invariant-loop-i l = Measured (recording l.sizes l.ticks l.ts l.nu) l.rate l.last (needs_of l.m) l.i
+
+abbrev pub decreases-loop-i : goal.decreases-loop-i
+decreases-loop-i l = length l.sizes - l.i

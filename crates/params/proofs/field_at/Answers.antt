@@ -1,0 +1,12 @@
+-- `params::field_at` meets its contract: each return is the field that stands at its place (FieldAtLaws).
+-- Assumes nothing.
+use mathlib.Core.Path.{sym, ap, ◌∙◌}
+use borrow.Author.Rules.{rules}
+use Rattle.params.proofs.FieldAtLaws.{field_at, field-scale, field-row, field-tail}
+use Rattle.params.proofs.field_at.Goals as goal
+
+pub returns-then-n-f : goal.returns-then-n-f
+returns-then-n-f c = sym (field-tail c.args.n _ c.if-n-f.true c.requires.1)
+
+pub returns : goal.returns
+returns c = c.row_field.ensures ∙ sym (field-row c.args.n _ c.if-f-lt3.false c.if-n-f.false)

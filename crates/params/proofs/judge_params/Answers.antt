@@ -1,0 +1,92 @@
+-- `params::judge_params` meets its contract. The loop's invariant: the fields that are left, judged after the values passed, are judged as the whole
+-- record is. The measure is what is left of the fields. Assumes nothing.
+use Prim.Native.Nat.{ℕ, zero, suc, ◌+◌, ◌-◌, ◌*◌, ◌≤◌, ◌<◌}
+use native.Mathlib.Nat.{le_of_lt}
+use native.Mathlib.Numerals.{add-one}
+use native.Mathlib.Omega.{arith}
+use mathlib.Core.Path.{◌≡◌, refl, sym, ap, ◌∙◌}
+use mathlib.Core.Bool.{true, false, cond, or-true}
+use mathlib.Core.List.{List, []}
+use lib.ListN.{length, get_or, take, drop, drop_of_length-le}
+use lib.Seq.{get_or-take, drop-cons, take-suc, length-take-le}
+use borrow.Author.Rules.{rules}
+use borrow.Author.Tests.{lt-ltb, not-true, not-false}
+use Rattle.rules.specs.Limits.{cpb_cnt_max}
+use Rattle.rules.specs.Refusals as refusal
+use Rattle.terms.specs.Answers.{Judgement, passed, refused}
+use Rattle.terms.specs.Numbers.{outside}
+use Rattle.coding.specs.Fields.{Field, cpb_cnt_minus1, fields_of, place_of, keeps, fields_judged}
+use Rattle.coding.specs.Params.{Params, values_of, params_judged}
+use Rattle.terms.proofs.AnswersLaws.{test-false, test-true}
+use Rattle.terms.proofs.NumbersLaws.{outside-false}
+use Rattle.params.specs.Outcome.{params_of}
+use Rattle.params.specs.Steps.{stand_of, field_of, kept_by}
+use Rattle.params.specs.declared.Field as code
+use Rattle.params.proofs.FieldAtLaws.{fields_of-length}
+use Rattle.params.proofs.ValuesLaws.{Walk, walk-next, At, within-fields, within-values}
+use Rattle.params.proofs.judge_params.Invariants.{judged_left, Judging}
+use Rattle.params.proofs.judge_params.Goals as goal
+
+-- a count out of range is refused, and after one in range the fields are judged
+count-refused : (p : Params) → outside 1 cpb_cnt_max p.cpb_cnt ≡ true → params_judged p ≡ refused refusal.field 0
+count-refused p e = rw (test-true refusal.field 0 e)
+
+count-judged : (p : Params) → 1 ≤ p.cpb_cnt → p.cpb_cnt ≤ cpb_cnt_max → params_judged p ≡ fields_judged (fields_of p.cpb_cnt) [] (values_of p)
+count-judged p some few = rw (test-false refusal.field 0 ((outside-false 1 cpb_cnt_max p.cpb_cnt).1 (some, few)))
+
+judged-more : (fs : List Field) (vs : List ℕ) (d : Field) (f : ℕ) → f < length fs → f < length vs
+    → fields_judged (drop f fs) (take f vs) (drop f vs)
+    ≡ cond (keeps (get_or fs f d) (take f vs) (get_or vs f 0)) (fields_judged (drop (suc f) fs) (take (suc f) vs) (drop (suc f) vs))
+    (refused refusal.field (place_of (get_or fs f d).stand))
+unfolding fields_judged
+judged-more fs vs d f h g = rw (drop-cons fs f d h, drop-cons vs f 0 g, take-suc vs f 0 g)
+
+-- the third value back is that of the row before; the first field has no rule
+kept-same : (n : ℕ) (vs : List ℕ) (f v : ℕ) → f ≤ length vs
+    → kept_by (get_or (fields_of n) f cpb_cnt_minus1) (get_or vs (f - 3) 0) v ≡ keeps (get_or (fields_of n) f cpb_cnt_minus1) (take f vs) v
+kept-same n vs zero v h = refl
+kept-same n vs (suc f) v h = rw (length-take-le (suc f) vs h, get_or-take (suc f) vs (suc f - 3) 0 (omega arith))
+
+module _ (p : Params) (f : ℕ) (h : Judging p f) where
+  whole : judged_left p f ≡ params_judged p
+  whole = h.same ∙ sym (count-judged p h.walk.some h.walk.few)
+
+  module _ (field : code.Field) (before v : ℕ) (at : At p f field v) (e : before ≡ get_or (values_of p) (f - 3) 0) where
+    judged-next : judged_left p f ≡ cond (kept_by (field_of field) before v) (judged_left p (f + 1)) (refused refusal.field (place_of (stand_of field.row)))
+    judged-next =
+        let inside = within-values p f field v at in
+        rw (e, at.value, add-one)
+        (judged-more (fields_of p.cpb_cnt) (values_of p) cpb_cnt_minus1 f (within-fields p f field v at) inside
+        ∙ rw (← kept-same p.cpb_cnt (values_of p) f (get_or (values_of p) f 0) (le_of_lt inside), ← at.is))
+
+    next : kept_by (field_of field) before v ≡ true → Judging p (f + 1)
+    next k = record { walk = walk-next h.walk at.within; same = rw k at (sym judged-next) ∙ h.same }
+
+    fault : kept_by (field_of field) before v ≡ false → refused refusal.field (place_of (stand_of field.row)) ≡ params_judged p
+    fault k = rw k at (sym judged-next) ∙ whole
+
+  done : 3 + 3 * p.cpb_cnt + 4 ≤ f → passed ≡ params_judged p
+  unfolding fields_judged
+  done end = rw (drop_of_length-le (fields_of p.cpb_cnt) {i = f} (omega (arith, fields_of-length p.cpb_cnt))) at whole
+
+pub returns-then-n-eq0 : goal.returns-then-n-eq0
+returns-then-n-eq0 c = sym (count-refused (params_of c.args.params) (rw c.if-n-eq0.true))
+
+pub returns-then-n-gt-CPB_CNT_MAX : goal.returns-then-n-gt-CPB_CNT_MAX
+returns-then-n-gt-CPB_CNT_MAX c = sym (count-refused (params_of c.args.params) (rw (lt-ltb _ _ c.if-n-gt-CPB_CNT_MAX.true, or-true)))
+
+pub returns-then-not-keeps : goal.returns-then-not-keeps
+returns-then-not-keeps c =
+    let turn : At (params_of c.args.params) c.loop-f.f c.field_at-field.result c.value_at.result = record { within = search rules; is = c.field_at-field.ensures; value = c.value_at.ensures } in
+    let back = c.value_at-before.ensures ∙ ap (λ i. get_or (values_of (params_of c.args.params)) i 0) c.row_before.ensures in
+    ap (refused refusal.field) c.place_of.ensures
+    ∙ fault _ _ c.loop-f.invariant _ _ _ turn back (sym c.keeps.ensures ∙ c.if-not-keeps.true)
+
+pub loop-f-preserved : goal.loop-f-preserved
+loop-f-preserved c =
+    let turn : At (params_of c.args.params) c.loop-f.f c.field_at-field.result c.value_at.result = record { within = search rules; is = c.field_at-field.ensures; value = c.value_at.ensures } in
+    let back = c.value_at-before.ensures ∙ ap (λ i. get_or (values_of (params_of c.args.params)) i 0) c.row_before.ensures in
+    next _ _ c.loop-f.invariant _ _ _ turn back (sym c.keeps.ensures ∙ c.if-not-keeps.false)
+
+pub returns : goal.returns
+returns c = done _ _ c.loop-f.invariant c.loop-f-test.false
