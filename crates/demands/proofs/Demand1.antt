@@ -14,7 +14,7 @@ use Rattle.model.specs.Least.{least_buffer, least_fullness}
 use Rattle.terms.specs.Answers.{Answer, given, refused, Judgement, lowest, first, answer_with, written_if, room_check}
 use Rattle.model.specs.Faults.{schedule_faults}
 use Rattle.coding.specs.Codes.{bits_of}
-use Rattle.model.specs.Panel.{within, over}
+use Rattle.model.specs.Panel.{Reading, within, over}
 use Rattle.coding.specs.Fields.{FieldsRead as FieldsReading, done, short, at_fault}
 use Rattle.coding.specs.Params as params
 use Rattle.layout.specs.Sheet.{sheet_sizes, sheet_ticks, sheet_rates, open_faults, head_of, sheet_text, output_of}
@@ -59,12 +59,21 @@ zeroed (done values next) e = let z : ◌≡◌ {A = ℕ} 0 1 = cc in absurd (om
 zeroed (short p) e = refl
 zeroed (at_fault p row) e = refl
 
+-- a value has no number and no place
+verdict_given : (v : Verdict) → let r = verdict_answer (given v) in (1 ≤ r.kind) × (r.number ≡ 0) × (r.place ≡ 0)
+verdict_given holds = (lit≤ tt, refl, refl)
+verdict_given (late j u) = (lit≤ tt, refl, refl)
+
+reading_given : (x : Reading) → let r = reading_answer (given x) in (1 ≤ r.kind) × (r.number ≡ 0) × (r.place ≡ 0)
+reading_given (within w) = (lit≤ tt, refl, refl)
+reading_given (over w y) = (lit≤ tt, refl, refl)
+
 told_verdict : {a : Answer Verdict} {r : PlannerVerdict} {Clear : Type 0} → r ≡ verdict_answer a
     → ((n i : ℕ) → a ≡ refused n i → (r.picture ≡ 0) × (r.units ≡ 0) → Clear)
     → Told a r.kind r.number r.place Clear
 told_verdict p clear =
     told (λ r. r.kind) (λ r. r.number) (λ r. r.place) verdict_answer p
-    (λ v. elim v [ holds ↦ (lit≤ tt, refl, refl) | late j u ↦ (lit≤ tt, refl, refl) ])
+    verdict_given
     (λ n i. (refl, refl, refl))
     (λ n i e q. clear n i e (ap (λ r. r.picture) q, ap (λ r. r.units) q))
 
@@ -122,7 +131,7 @@ demand1-seconds u r p =
 pub demand1-panel : Demand1Panel
 demand1-panel u limit r p =
     told (λ r. r.kind) (λ r. r.number) (λ r. r.place) reading_answer p
-    (λ x. elim x [ within w ↦ (lit≤ tt, refl, refl) | over w y ↦ (lit≤ tt, refl, refl) ])
+    reading_given
     (λ n i. (refl, refl, refl))
     (λ n i e q. (ap (λ r. r.wait) q, ap (λ r. r.limit) q))
 
