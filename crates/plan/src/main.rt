@@ -3,17 +3,37 @@
 
 #![tactic(auto)]
 
+ghost use Rattle.std.specs.Prelude.{◌≤◌, length, IfOk};
+
+use std::io::{self, Print, Read};
+
 use print::Printed;
 use rules::{SHEET_BYTES_MAX, TEXT_MAX};
 
-fn main() {
+// Reads until the bytes are full or the input ends, and answers how many were read.
+fn read_full<R: Read>(input: &mut R, bytes: &mut [u8]) -> io::Result<usize>
+    ensures { IfOk result (λ n. n ≤ length bytes.new) }
+{
+    let mut n = 0;
+    while n < bytes.len() {
+        let got = input.read(&mut bytes[n..])?;
+        if got == 0 {
+            break;
+        }
+        n += got;
+    }
+    Ok(n)
+}
+
+fn main(rt: HostRuntime) -> io::Result<()> {
     // One byte more than the largest sheet is enough to refuse any longer input, an endless one too.
     let mut bytes = [0u8; SHEET_BYTES_MAX + 1];
-    let n = io::read_full(libc::STDIN_FILENO, &mut bytes);
+    let n = read_full(&mut rt.stdin(), &mut bytes)?;
     let mut text = [0u8; TEXT_MAX];
     let printed = print::print_sheet(&bytes[..n], &mut text);
     if let Printed::Text(output) = printed {
         let end = output.end;
-        io::write_all(libc::STDOUT_FILENO, &text[..end]);
+        rt.write_all(&text[..end])?;
     }
+    Ok(())
 }

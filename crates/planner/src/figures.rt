@@ -1,4 +1,4 @@
-// Least figures, tables and lookups, exported. Serves document 01, "How bits arrive and leave", "Least figures", and
+// Least figures, tables and lookups, each answer a plain struct. Serves document 01, "How bits arrive and leave", "Least figures", and
 // "Looking up a rate in a table".
 ghost use Rattle.model.specs.Recording.{recording};
 ghost use Rattle.model.specs.Lookup.{table};
@@ -8,8 +8,7 @@ use answers::figures::{PlannerBucket, as_found, as_least, as_table};
 use answers::recordings::PlannerJudgement;
 
 // The least figures of a recording at one rate.
-#[unsafe(no_mangle)]
-pub extern "C" fn planner_least(
+pub fn planner_least(
     sizes: &[u64],
     ticks: &[u64],
     ts: u64,
@@ -22,8 +21,7 @@ pub extern "C" fn planner_least(
 }
 
 // Writes the least figures at every rate of a list to two lent lists from entry `at` on.
-#[unsafe(no_mangle)]
-pub extern "C" fn planner_table(
+pub fn planner_table(
     sizes: &[u64],
     ticks: &[u64],
     ts: u64,
@@ -39,8 +37,7 @@ pub extern "C" fn planner_table(
 }
 
 // Buffer and start fullness for any rate, from a table that is handed in.
-#[unsafe(no_mangle)]
-pub extern "C" fn planner_look_up(
+pub fn planner_look_up(
     rates: &[u64],
     buffers: &[u64],
     fullnesses: &[u64],

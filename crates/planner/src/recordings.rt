@@ -1,4 +1,4 @@
-// Recordings, verdicts and schedules, exported. Serves document 01, "How bits arrive and leave".
+// Recordings, verdicts and schedules, each answer a plain struct. Serves document 01, "How bits arrive and leave".
 ghost use Rattle.model.specs.Recording.{recording};
 ghost use Rattle.model.specs.Arrival.{bucket};
 ghost use Rattle.planner.specs.Recordings.{ExportedJudge, ExportedVerdict, ExportedSchedule};
@@ -6,16 +6,14 @@ ghost use Rattle.planner.specs.Recordings.{ExportedJudge, ExportedVerdict, Expor
 use answers::recordings::{PlannerJudgement, PlannerVerdict, as_judgement, as_verdict};
 
 // Judges a recording and its clock.
-#[unsafe(no_mangle)]
-pub extern "C" fn planner_judge(sizes: &[u64], ticks: &[u64], ts: u64, nu: u64) -> PlannerJudgement
+pub fn planner_judge(sizes: &[u64], ticks: &[u64], ts: u64, nu: u64) -> PlannerJudgement
     ensures { ExportedJudge (recording sizes.now ticks.now ts nu) result }
 {
     as_judgement(judging::judge(sizes, ticks, ts, nu))
 }
 
 // The verdict of R, B and F.
-#[unsafe(no_mangle)]
-pub extern "C" fn planner_verdict(
+pub fn planner_verdict(
     sizes: &[u64],
     ticks: &[u64],
     ts: u64,
@@ -30,8 +28,7 @@ pub extern "C" fn planner_verdict(
 }
 
 // Writes the schedule to two lent lists from entry `at` on, late or not, and answers the verdict.
-#[unsafe(no_mangle)]
-pub extern "C" fn planner_schedule(
+pub fn planner_schedule(
     sizes: &[u64],
     ticks: &[u64],
     ts: u64,

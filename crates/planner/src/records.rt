@@ -1,4 +1,4 @@
-// Parameter records, exported. Serves document 01, "HRD parameter bits".
+// Parameter records, each answer a plain struct. Serves document 01, "HRD parameter bits".
 ghost use Rattle.model.specs.Recording.{recording};
 ghost use Rattle.planner.specs.Records.{ExportedRecord, ExportedLength, ExportedParamsRow, ExportedRead, ExportedWrite, ExportedRow};
 
@@ -10,40 +10,35 @@ use answers::records::{
 use params::Params;
 
 // Judges a parameter record.
-#[unsafe(no_mangle)]
-pub extern "C" fn planner_judge_params(params: Params) -> PlannerJudgement
+pub fn planner_judge_params(params: Params) -> PlannerJudgement
     ensures { ExportedRecord params result }
 {
     as_judgement(params::judge_params(params))
 }
 
 // How many bits a parameter record takes.
-#[unsafe(no_mangle)]
-pub extern "C" fn planner_params_length(params: Params) -> PlannerLength
+pub fn planner_params_length(params: Params) -> PlannerLength
     ensures { ExportedLength params result }
 {
     as_length(params_write::length_of(params))
 }
 
 // Rate and size of a row of a parameter record.
-#[unsafe(no_mangle)]
-pub extern "C" fn planner_params_row(params: Params, row: usize) -> PlannerRow
+pub fn planner_params_row(params: Params, row: usize) -> PlannerRow
     ensures { ExportedParamsRow params row result }
 {
     as_row(row_verdict::params_row(params, row))
 }
 
 // Reads a parameter record at a bit position.
-#[unsafe(no_mangle)]
-pub extern "C" fn planner_read_params(bytes: &[u8], start: u64) -> PlannerParamsRead
+pub fn planner_read_params(bytes: &[u8], start: u64) -> PlannerParamsRead
     ensures { ExportedRead bytes.now start result }
 {
     as_read(params_read::read_params(bytes, start))
 }
 
 // Writes a parameter record at a bit position.
-#[unsafe(no_mangle)]
-pub extern "C" fn planner_write_params(
+pub fn planner_write_params(
     params: Params,
     bytes: &mut [u8],
     start: u64,
@@ -54,8 +49,7 @@ pub extern "C" fn planner_write_params(
 }
 
 // The verdict of a start fullness and a row of a parameter record.
-#[unsafe(no_mangle)]
-pub extern "C" fn planner_row_verdict(
+pub fn planner_row_verdict(
     sizes: &[u64],
     ticks: &[u64],
     ts: u64,

@@ -1,20 +1,18 @@
-// Seconds and the panel, exported. Serves document 01, "Looking up a rate in a table".
+// Seconds and the panel, each answer a plain struct. Serves document 01, "Looking up a rate in a table".
 ghost use Rattle.model.specs.Arrival.{bucket};
 ghost use Rattle.planner.specs.Seconds.{ExportedSeconds, ExportedPanel};
 
 use answers::seconds::{PlannerPanelReading, PlannerSeconds, as_reading, as_seconds};
 
 // The wait and the fill time of a bucket at its rate, in seconds.
-#[unsafe(no_mangle)]
-pub extern "C" fn planner_seconds(rate: u64, buffer: u64, fullness: u64) -> PlannerSeconds
+pub fn planner_seconds(rate: u64, buffer: u64, fullness: u64) -> PlannerSeconds
     ensures { ExportedSeconds (bucket rate buffer fullness) result }
 {
     as_seconds(panel::seconds_of(rate, buffer, fullness))
 }
 
 // The panel reading of a bucket against the driver's limit.
-#[unsafe(no_mangle)]
-pub extern "C" fn planner_panel(
+pub fn planner_panel(
     rate: u64,
     buffer: u64,
     fullness: u64,

@@ -1,11 +1,10 @@
-// Sheets and their text, exported. Serves document 01, "The sheet and the printed table".
+// Sheets and their text, each answer a plain struct. Serves document 01, "The sheet and the printed table".
 ghost use Rattle.planner.specs.Sheets.{ExportedOpen, ExportedPrint};
 
 use answers::sheets::{PlannerSheet, PlannerText, as_sheet, as_text};
 
 // Opens a sheet: writes its sizes, ticks and rates to the first entries of three lent lists.
-#[unsafe(no_mangle)]
-pub extern "C" fn planner_open_sheet(
+pub fn planner_open_sheet(
     bytes: &[u8],
     sizes: &mut [u64],
     ticks: &mut [u64],
@@ -17,8 +16,7 @@ pub extern "C" fn planner_open_sheet(
 }
 
 // Prints what a sheet comes to, its table or its refusal line, to the front of a lent list of bytes.
-#[unsafe(no_mangle)]
-pub extern "C" fn planner_sheet_text(bytes: &[u8], text: &mut [u8]) -> PlannerText
+pub fn planner_sheet_text(bytes: &[u8], text: &mut [u8]) -> PlannerText
     ensures { ExportedPrint bytes.now text.old result text.new }
 {
     as_text(print::print_sheet(bytes, text))

@@ -4,8 +4,7 @@ ghost use Rattle.planner.specs.Version.{ExportedVersion};
 pub const VERSION: u64 = 200;
 
 // Major x 10000 + minor x 100 + patch.
-#[unsafe(no_mangle)]
-pub extern "C" fn planner_version() -> u64
+pub fn planner_version() -> u64
     ensures { ExportedVersion result }
 {
     VERSION
