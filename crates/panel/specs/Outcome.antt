@@ -4,7 +4,6 @@
 -- Assumes nothing.
 use Rattle.terms.specs.Answers.{Answer, given, refused}
 use Rattle.model.specs.Panel as panel
-use Rattle.panel.specs.declared.Seconds.{Seconds}
 use Rattle.panel.specs.declared.Timed.{Timed}
 use Rattle.panel.specs.declared.Timed.TheVariants as timed
 use Rattle.panel.specs.declared.Reading.{Reading}

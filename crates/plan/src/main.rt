@@ -5,10 +5,9 @@
 
 ghost use Rattle.std.specs.Prelude.{◌≤◌, length, IfOk};
 
-use std::io::{self, Print, Read};
-
 use print::Printed;
 use rules::{SHEET_BYTES_MAX, TEXT_MAX};
+use std::io::{self, Print, Read};
 
 // Reads until the bytes are full or the input ends, and answers how many were read.
 fn read_full<R: Read>(input: &mut R, bytes: &mut [u8]) -> io::Result<usize>

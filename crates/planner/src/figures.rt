@@ -8,13 +8,7 @@ use answers::figures::{PlannerBucket, as_found, as_least, as_table};
 use answers::recordings::PlannerJudgement;
 
 // The least figures of a recording at one rate.
-pub fn planner_least(
-    sizes: &[u64],
-    ticks: &[u64],
-    ts: u64,
-    nu: u64,
-    rate: u64,
-) -> PlannerBucket
+pub fn planner_least(sizes: &[u64], ticks: &[u64], ts: u64, nu: u64, rate: u64) -> PlannerBucket
     ensures { ExportedLeast (recording sizes.now ticks.now ts nu) rate result }
 {
     as_least(least::least(sizes, ticks, ts, nu, rate))

@@ -38,11 +38,7 @@ pub fn planner_read_params(bytes: &[u8], start: u64) -> PlannerParamsRead
 }
 
 // Writes a parameter record at a bit position.
-pub fn planner_write_params(
-    params: Params,
-    bytes: &mut [u8],
-    start: u64,
-) -> PlannerPosition
+pub fn planner_write_params(params: Params, bytes: &mut [u8], start: u64) -> PlannerPosition
     ensures { ExportedWrite params bytes.old start result bytes.new }
 {
     as_position(params_write::write_params(params, bytes, start))

@@ -12,12 +12,7 @@ pub fn planner_seconds(rate: u64, buffer: u64, fullness: u64) -> PlannerSeconds
 }
 
 // The panel reading of a bucket against the driver's limit.
-pub fn planner_panel(
-    rate: u64,
-    buffer: u64,
-    fullness: u64,
-    limit: f64,
-) -> PlannerPanelReading
+pub fn planner_panel(rate: u64, buffer: u64, fullness: u64, limit: f64) -> PlannerPanelReading
     ensures { ExportedPanel (bucket rate buffer fullness) limit result }
 {
     as_reading(panel::panel(rate, buffer, fullness, limit))

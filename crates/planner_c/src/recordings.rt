@@ -45,5 +45,7 @@ pub extern "C" fn planner_schedule(
 ) -> PlannerVerdict
     ensures { ExportedSchedule (recording sizes.now ticks.now ts nu) (bucket rate buffer fullness) at starts.old ends.old result starts.new ends.new }
 {
-    planner::recordings::planner_schedule(sizes, ticks, ts, nu, rate, buffer, fullness, at, starts, ends)
+    planner::recordings::planner_schedule(
+        sizes, ticks, ts, nu, rate, buffer, fullness, at, starts, ends,
+    )
 }

@@ -1,5 +1,7 @@
 // Every limit, every refusal number and every kind of answer of the planner, each as one constant. Nothing else in the code
 // writes these numbers. Serves document 01, "A recording and its units", "HRD parameter bits" and "When the planner says no".
+#![tactic(auto)]
+
 ghost use Rattle.std.specs.Prelude.{◌≡◌};
 ghost use Rattle.rules.specs.Kinds.{kinds};
 ghost use Rattle.rules.specs.Limits.{limits};

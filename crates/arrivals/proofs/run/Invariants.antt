@@ -1,13 +1,11 @@
 -- `arrivals::run` meets its contract. The loop's invariant: the line is free from the last end on, what was seen is the verdict on the pictures
 -- passed, and both lists are filled with their starts and ends. The measure is what is left of the pictures. Assumes nothing.
 use Prim.Native.Nat.{◌-◌}
-use native.Mathlib.Omega.{arith}
-use borrow.Author.Rules.{rules}
 use lib.ListN.{length}
 use Rattle.model.specs.Recording.{recording}
 use Rattle.model.specs.Arrival.{bucket, arrival_start, arrival_end}
-use Rattle.terms.proofs.FilledLaws.{Filled, filled-none, filled-more, filled-done}
-use Rattle.arrivals.proofs.RunLaws.{Running, begun, lead-fit, hold-fit, fall-fit, rises, ticks-fit, removal-fit, bits-fit, end-fit, arrives, next, done}
+use Rattle.terms.proofs.FilledLaws.{Filled}
+use Rattle.arrivals.proofs.RunLaws.{Running}
 use Rattle.arrivals.proofs.run.Given as goal
 
 abbrev pub invariant-loop-i : goal.invariant-loop-i

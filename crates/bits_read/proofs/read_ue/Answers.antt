@@ -1,8 +1,8 @@
 -- `bits_read::read_ue` meets its contract: past the end no zero is counted.
 -- Assumes nothing.
-use Prim.Native.Nat.{ℕ, ◌+◌, ◌-◌, ◌^◌, min, ◌<◌}
+use Prim.Native.Nat.{ℕ, ◌-◌, min, ◌<◌}
 use native.Mathlib.Omega.{arith}
-use mathlib.Core.Path.{◌≡◌, sym, ◌∙◌}
+use mathlib.Core.Path.{◌≡◌, sym}
 use Rattle.rules.specs.Limits.{zeros_max}
 use Rattle.coding.specs.Codes.{Bits, bits_of, ended, zeros_from, read_code, ue}
 use Rattle.coding.proofs.CodesLaws.{got_within-past}

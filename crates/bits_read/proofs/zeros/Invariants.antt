@@ -1,14 +1,9 @@
 -- `bits_read::zeros` meets its contract. The loop's invariant: the `i` bits passed are zeros. The measure is what is left of the bits.
 -- Assumes nothing.
 use Prim.Native.Nat.{ℕ, ◌+◌, ◌-◌, ◌≤◌, ◌<◌}
-use native.Mathlib.Omega.{arith}
-use mathlib.Core.Path.{◌≡◌, sym, ◌∙◌}
-use mathlib.Core.Logic.{◌≢◌}
+use mathlib.Core.Path.{◌≡◌}
 use mathlib.Core.List.{List}
-use borrow.Author.Count.{below_none, below_more}
-use borrow.Author.Rules.{rules}
-use Rattle.coding.specs.Codes.{bit_at, bits_of, zeros_from}
-use Rattle.coding.proofs.CodesLaws.{zeros-one}
+use Rattle.coding.specs.Codes.{bit_at}
 use Rattle.bits_read.proofs.zeros.Given as goal
 
 -- the bits passed are zeros

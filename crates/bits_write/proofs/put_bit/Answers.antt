@@ -1,10 +1,8 @@
 -- `bits_write::put_bit` meets its contract: the unit is the power of two at the bit's place in its byte; adding the new bit's unit and then taking
 -- the old bit's stays within the byte. Assumes nothing.
-use Prim.Native.Nat.{ℕ, ◌-◌, ◌*◌, ◌/◌, ◌%◌, ◌^◌, ◌≤◌, ◌<◌}
-use native.Mathlib.Nat.{le_trans, le_of_suc-le-suc, mod-le, mul-le-mul_right, div-mul-le_self}
+use Prim.Native.Nat.{ℕ, ◌-◌, ◌*◌, ◌%◌, ◌^◌}
 use native.Mathlib.Omega.{arith}
 use mathlib.Core.Path.{◌≡◌}
-use lib.Pow.{pow_pos, pow_mono}
 use borrow.Author.Rules.{rules}
 use Rattle.rules.specs.Width.{word_bits}
 use Rattle.coding.proofs.PutBitsLaws.{with_bit-lt}

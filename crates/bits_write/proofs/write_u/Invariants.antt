@@ -1,15 +1,9 @@
 -- `bits_write::write_u` meets its contract. The loop's invariant: the first `i` of the `w` bits are written, which are those of v / 2^(w - i).
 -- The measure is what is left of the width. Assumes nothing.
-use Prim.Native.Nat.{ℕ, ◌+◌, ◌-◌, ◌/◌, ◌%◌, ◌^◌, ◌≤◌, ◌<◌}
-use native.Mathlib.Nat.{div-one}
-use native.Mathlib.Omega.{arith}
-use mathlib.Core.Path.{◌≡◌, refl, ap, ◌∙◌}
+use Prim.Native.Nat.{ℕ, ◌-◌, ◌/◌, ◌^◌, ◌≤◌}
+use mathlib.Core.Path.{◌≡◌}
 use mathlib.Core.List.{List}
-use lib.ListN.{length}
-use borrow.Author.Rules.{rules}
-use Rattle.coding.specs.Codes.{unsigned_bits, put_bit, put_bits}
-use Rattle.coding.proofs.CodesLaws.{unsigned_bits-length, unsigned_bits-more}
-use Rattle.coding.proofs.PutBitsLaws.{put_bits-length, put_bits-append}
+use Rattle.coding.specs.Codes.{unsigned_bits, put_bits}
 use Rattle.bits_write.proofs.write_u.Given as goal
 
 -- the first i bits are written

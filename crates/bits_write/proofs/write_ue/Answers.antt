@@ -4,7 +4,6 @@ use Prim.Native.Nat.{ℕ, ◌+◌, ◌≤◌}
 use native.Mathlib.Omega.{arith}
 use mathlib.Core.Path.{◌≡◌}
 use mathlib.Core.List.{List}
-use borrow.Author.Rules.{rules}
 use Rattle.rules.specs.Limits.{value_max, zeros_max}
 use Rattle.coding.specs.Codes.{ue, code_bits, unsigned_bits, zeros_of, put_bits}
 use Rattle.coding.proofs.CodesLaws.{unsigned_bits-length, ue-length, ue-parts}

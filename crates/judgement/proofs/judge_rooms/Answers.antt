@@ -3,7 +3,6 @@
 use mathlib.Core.Path.{sym, ap₂, ◌∙◌}
 use Rattle.terms.specs.Answers.{lower}
 use Rattle.terms.proofs.AnswersLaws.{lowest-two}
-use borrow.Author.Rules.{rules}
 use Rattle.judgement.proofs.judge_rooms.Goals as goal
 
 pub returns : goal.returns

@@ -1,12 +1,9 @@
 -- `judging::first_bad_size` meets its contract. The loop's invariant: no size passed is at fault. The measure is what is left of the list.
 -- Assumes nothing.
 use Prim.Native.Nat.{◌-◌, ◌≤◌}
-use mathlib.Core.Path.{sym, ◌∙◌}
-use borrow.Author.Rules.{rules}
 use lib.ListN.{length}
 use Rattle.terms.specs.Answers.{NoneBad}
 use Rattle.model.specs.Faults.{bad_size}
-use Rattle.terms.proofs.AnswersLaws.{none_bad-zero, none_bad-more, first_bad-here, first_bad-none}
 use Rattle.judging.proofs.first_bad_size.Given as goal
 
 abbrev pub invariant-loop-i : goal.invariant-loop-i

@@ -1,17 +1,11 @@
 -- `judging::first_bad_tick` meets its contract. The loop's invariant: none of the pictures passed is at fault, and `before` is the last one's tick.
 -- The measure is what is left of the ticks. Assumes nothing.
-use native.Mathlib.Omega.{arith}
-use borrow.Author.Rules.{rules}
-use Prim.Native.Nat.{ℕ, ◌+◌, ◌-◌, ◌≤◌, ◌<◌}
-use mathlib.Core.Path.{◌≡◌, refl, sym, ◌∙◌}
+use Prim.Native.Nat.{ℕ, ◌-◌, ◌≤◌}
+use mathlib.Core.Path.{◌≡◌}
 use mathlib.Core.List.{List}
 use lib.ListN.{length, get_or}
-use borrow.Author.Tests.{le-leb, lt-leb, lt-ltb, le-ltb}
-use Rattle.rules.specs.Limits.{span_max}
-use Rattle.terms.specs.Answers.{NoneBad, FirstBad}
+use Rattle.terms.specs.Answers.{NoneBad}
 use Rattle.model.specs.Faults.{entry_before, bad_tick}
-use Rattle.terms.proofs.AnswersLaws.{none_bad-zero, none_bad-more, first_bad-here, first_bad-none}
-use Rattle.model.proofs.FaultsLaws.{entry_before-more, bad_tick-after}
 use Rattle.judging.proofs.first_bad_tick.Given as goal
 
 -- what is known of the ticks passed

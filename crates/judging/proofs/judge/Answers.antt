@@ -1,14 +1,7 @@
 -- `judging::judge` meets its contract: each return is the outcome at the check that led there (JudgeLaws).
 -- Assumes nothing.
-use borrow.Author.Rules.{rules}
-use mathlib.Core.Path.{◌≡◌, sym, ◌∙◌, subst}
-use mathlib.Core.Bool.{false}
-use lib.ListN.{length}
-use Rattle.rules.specs.Limits.{pictures_max}
-use Rattle.model.specs.Recording.{Recording, recording, pictures}
-use Rattle.terms.specs.Answers.{FirstBad}
-use Rattle.terms.specs.Numbers.{outside}
-use Rattle.model.specs.Faults.{bad_clock, bad_tick}
+use mathlib.Core.Path.{sym, ◌∙◌}
+use Rattle.model.specs.Recording.{recording}
 use Rattle.judging.proofs.JudgeLaws.{judge-pictures, judge-lengths, judge-clock, judge-size, judge-tick, judge-passed}
 use Rattle.judging.proofs.judge.Goals as goal
 

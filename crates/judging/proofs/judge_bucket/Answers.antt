@@ -4,7 +4,6 @@ use mathlib.Core.Path.{sym, ap, ap₂, ◌∙◌}
 use Rattle.rules.specs.Refusals as refusal
 use Rattle.terms.specs.Answers.{refuse_if, lower}
 use Rattle.terms.proofs.AnswersLaws.{lowest-two}
-use borrow.Author.Rules.{rules}
 use Rattle.judging.proofs.judge_bucket.Goals as goal
 
 pub returns : goal.returns

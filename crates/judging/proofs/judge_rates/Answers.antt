@@ -1,7 +1,6 @@
 -- `judging::judge_rates` meets its contract: both checks have one number, so the first that refuses is given.
 -- Assumes nothing.
 use mathlib.Core.Path.{sym, ◌∙◌}
-use borrow.Author.Rules.{rules}
 use Rattle.judging.proofs.JudgeLaws.{rates-count, rates-listed}
 use Rattle.judging.proofs.judge_rates.Goals as goal
 

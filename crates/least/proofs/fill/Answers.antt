@@ -1,17 +1,16 @@
 -- `least::fill` meets its contract. The loop's invariant: each list begins with its figures at the rates passed, and what stands
 -- behind them is as it was. The measure is what is left of the list of rates.
 -- Assumes nothing.
-use Prim.Native.Nat.{ℕ, ◌-◌, ◌≤◌, zero-le}
+use Prim.Native.Nat.{ℕ, ◌≤◌, zero-le}
 use native.Mathlib.Omega.{arith}
 use mathlib.Core.Path.{◌≡◌, refl, sym, ap, ◌∙◌}
 use mathlib.Core.List.{List, map}
-use borrow.Author.Rules.{rules}
-use lib.ListN.{length, get_or}
+use lib.ListN.{length}
 use Rattle.terms.specs.Numbers.{written}
 use Rattle.model.specs.Recording.{recording}
 use Rattle.model.specs.Least.{least_buffer, least_fullness}
 use Rattle.terms.proofs.NumbersLaws.{map-list_of}
-use Rattle.terms.proofs.FilledLaws.{Filled, filled-none, filled-more, filled-all}
+use Rattle.terms.proofs.FilledLaws.{filled-none, filled-more, filled-all}
 use Rattle.least.proofs.fill.Invariants.{Rated}
 use Rattle.least.proofs.fill.Goals as goal
 

@@ -1,17 +1,12 @@
 -- `least::fill` meets its contract. The loop's invariant: each list begins with its figures at the rates passed, and what stands
 -- behind them is as it was. The measure is what is left of the list of rates.
 -- Assumes nothing.
-use Prim.Native.Nat.{ℕ, ◌-◌, ◌≤◌, zero-le}
-use native.Mathlib.Omega.{arith}
-use mathlib.Core.Path.{◌≡◌, refl, sym, ap, ◌∙◌}
-use mathlib.Core.List.{List, map}
-use borrow.Author.Rules.{rules}
+use Prim.Native.Nat.{ℕ, ◌-◌, ◌≤◌}
+use mathlib.Core.List.{List}
 use lib.ListN.{length, get_or}
-use Rattle.terms.specs.Numbers.{written}
 use Rattle.model.specs.Recording.{recording}
 use Rattle.model.specs.Least.{least_buffer, least_fullness}
-use Rattle.terms.proofs.NumbersLaws.{map-list_of}
-use Rattle.terms.proofs.FilledLaws.{Filled, filled-none, filled-more, filled-all}
+use Rattle.terms.proofs.FilledLaws.{Filled}
 use Rattle.least.proofs.fill.Given as goal
 
 -- a list with f of each of the first i rates at its front, and at last of all of them

@@ -1,13 +1,11 @@
 -- `least::least` meets its contract: a refusal, or else the least figures.
 -- Assumes nothing.
-use mathlib.Core.Path.{◌≡◌, sym, ap, ◌∙◌}
-use Rattle.terms.specs.Answers.{passed, lowest, answer_with}
+use mathlib.Core.Path.{sym, ap, ◌∙◌}
+use Rattle.terms.specs.Answers.{answer_with}
 use Rattle.model.specs.Recording.{Recording, recording}
 use Rattle.model.specs.Least.{least_bucket}
-use Rattle.model.specs.Faults.{least_faults}
 use Rattle.judgement.specs.Outcome.{judgement_of}
 use Rattle.least.proofs.OutcomeLaws.{least-both, least-rated, least-given}
-use borrow.Author.Rules.{rules}
 use Rattle.least.proofs.least.Goals as goal
 
 pub returns-in-Refused : goal.returns-in-Refused

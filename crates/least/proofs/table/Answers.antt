@@ -1,14 +1,12 @@
 -- `least::table` meets its contract: a refusal, with both lists as they were, or else the figures in both lists from the given entry on.
 -- Assumes nothing.
 use native.Mathlib.Omega.{arith}
-use mathlib.Core.Path.{◌≡◌, sym, ap, ◌∙◌}
-use Rattle.terms.specs.Answers.{passed, lower, lowest}
+use mathlib.Core.Path.{sym, ap, ◌∙◌}
+use Rattle.terms.specs.Answers.{lower}
 use Rattle.terms.proofs.NumbersLaws.{lent-room}
 use Rattle.model.specs.Recording.{Recording, recording}
-use Rattle.model.specs.Faults.{table_faults}
 use Rattle.judgement.specs.Outcome.{judgement_of}
-use Rattle.least.proofs.OutcomeLaws.{table-both, table-refused, Roomy, table-roomy, table-written}
-use borrow.Author.Rules.{rules}
+use Rattle.least.proofs.OutcomeLaws.{table-both, table-refused, table-roomy, table-written}
 use Rattle.least.proofs.table.Goals as goal
 
 pub returns-in-Refused : goal.returns-in-Refused

@@ -1,12 +1,9 @@
 -- `lookup::first_bad_row` meets its contract. The loop's invariant: no row passed is at fault. The measure is what is left of the rows.
 -- Assumes nothing.
-use borrow.Author.Rules.{rules}
 use Prim.Native.Nat.{◌-◌, ◌≤◌}
-use mathlib.Core.Path.{sym, ◌∙◌}
 use lib.ListN.{length}
 use Rattle.terms.specs.Answers.{NoneBad}
 use Rattle.model.specs.Faults.{bad_row}
-use Rattle.terms.proofs.AnswersLaws.{none_bad-zero, none_bad-more, first_bad-here, first_bad-none}
 use Rattle.lookup.proofs.first_bad_row.Given as goal
 
 abbrev pub invariant-loop-i : goal.invariant-loop-i

@@ -3,11 +3,10 @@
 use mathlib.Core.Path.{sym, ap, ◌∙◌}
 use Rattle.rules.specs.Refusals as refusal
 use Rattle.terms.specs.Answers.{refuse_if, first_fault, lower}
-use Rattle.model.specs.Lookup.{Table, table}
+use Rattle.model.specs.Lookup.{table}
 use Rattle.model.specs.Faults.{bad_row}
 use Rattle.judgement.specs.Outcome.{judgement_of}
 use Rattle.lookup.proofs.JudgeLaws.{lookup-buffers, lookup-fullnesses, lookup-both}
-use borrow.Author.Rules.{rules}
 use Rattle.lookup.proofs.judge.Goals as goal
 
 pub returns-then-buffers-n : goal.returns-then-buffers-n

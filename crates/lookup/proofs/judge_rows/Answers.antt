@@ -3,7 +3,6 @@
 use mathlib.Core.Path.{◌∙◌}
 use Rattle.rules.specs.Refusals as refusal
 use Rattle.terms.proofs.AnswersLaws.{first_fault-search}
-use borrow.Author.Rules.{rules}
 use Rattle.lookup.proofs.judge_rows.Goals as goal
 
 pub returns : goal.returns

@@ -1,12 +1,7 @@
 -- `lookup::look_up` meets its contract: a refusal is the judgement's, and each figure is the definition's by `figure`'s contract.
 -- Assumes nothing.
-use borrow.Author.Rules.{rules}
-use mathlib.Core.Path.{◌≡◌, sym, ap, ap₂, ◌∙◌}
-use Rattle.model.specs.Arrival.{bucket}
-use Rattle.model.specs.Lookup.{Table, table}
-use Rattle.terms.specs.Answers.{given, passed, lowest}
-use Rattle.model.specs.Faults.{lookup_faults}
-use Rattle.terms.proofs.AnswersLaws.{answer-given, answer-refused}
+use mathlib.Core.Path.{sym, ap, ◌∙◌}
+use Rattle.model.specs.Lookup.{table}
 use Rattle.judgement.specs.Outcome.{judgement_of}
 use Rattle.lookup.proofs.JudgeLaws.{lookup-rate-some, buffers-ready, fullnesses-ready}
 use Rattle.lookup.proofs.look_up.Goals as goal

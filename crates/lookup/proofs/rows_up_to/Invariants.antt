@@ -1,15 +1,10 @@
 -- `lookup::rows_up_to` meets its contract. The loop's invariant: no row from i on is at or below the rate, so the answer is that of the
 -- first i rows. The measure is i.
 -- Assumes nothing.
-use native.Mathlib.Omega.{arith}
-use borrow.Author.Rules.{rules}
-use Prim.Native.Nat.{ℕ, zero, suc, ◌-◌, ◌≤◌, ◌<◌}
-use native.Mathlib.Nat.{le_trans, not-suc-le-zero, sub-le}
-use native.Mathlib.Numerals.{sub-one}
-use mathlib.Core.Path.{◌≡◌, refl, sym, ap, ◌∙◌}
+use Prim.Native.Nat.{ℕ, ◌≤◌}
+use mathlib.Core.Path.{◌≡◌}
 use mathlib.Core.List.{List}
-use lib.ListN.{length, get_or}
-use borrow.Author.Tests.{le-leb, lt-leb}
+use lib.ListN.{length}
 use Rattle.model.specs.Lookup.{rows_up_to}
 use Rattle.lookup.proofs.rows_up_to.Given as goal
 

@@ -2,20 +2,18 @@
 -- tick before the next one. The measure is what is left of the list of sizes.
 -- Assumes nothing.
 use Prim.Native.Nat.{ℕ, ◌+◌, ◌-◌, ◌*◌, ◌≤◌, ◌<◌, zero-le}
-use native.Mathlib.Nat.{le_refl, le_antisymm}
+use native.Mathlib.Nat.{le_refl}
 use native.Mathlib.Omega.{arith}
-use mathlib.Core.Path.{◌≡◌, refl, sym, ap, ◌∙◌}
+use mathlib.Core.Path.{◌≡◌, refl, sym, ◌∙◌}
 use borrow.Author.Rules.{rules}
-use lib.ListN.{length}
-use Rattle.rules.specs.Limits.{span_max, rate_max, bucket_max}
+use Rattle.rules.specs.Limits.{span_max, bucket_max}
 use Rattle.rules.specs.Width.{Word}
 use Rattle.rules.proofs.Fits.{units-fits, tick_units-fits}
-use Rattle.model.specs.Recording.{Recording, Within, recording, pictures, size, tick}
-use Rattle.model.specs.Needs.{Needs, needs_step, tick_before, needs_below}
+use Rattle.model.specs.Recording.{Recording, pictures, size, tick}
+use Rattle.model.specs.Needs.{Needs, needs_step, needs_below}
 use Rattle.model.proofs.RecordingLaws.{within-near}
 use Rattle.model.proofs.FaultsLaws.{within-recorded}
 use Rattle.model.proofs.NeedsLaws.{tick_before-more, tick_before-between, needs_below-more, needs_below-covers, needs_below-limit}
-use Rattle.needs.specs.Outcome.{needs_of}
 use Rattle.needs.proofs.measure.Invariants.{Measured}
 use Rattle.needs.proofs.measure.Goals as goal
 

@@ -4,13 +4,12 @@ use mathlib.Core.Path.{◌≡◌, sym, ap, ◌∙◌}
 use mathlib.Core.Bool.{true, false}
 use lib.Ieee.{Float, le}
 use Rattle.rules.specs.Refusals as refusal
-use Rattle.terms.specs.Answers.{given, passed, refuse_if, lowest}
+use Rattle.terms.specs.Answers.{given, refuse_if}
 use Rattle.terms.proofs.AnswersLaws.{answer-given, answer-refused}
 use Rattle.model.specs.Arrival.{Bucket, bucket}
-use Rattle.model.specs.Panel.{seconds_of, reading_of, within, over, panel_faults}
+use Rattle.model.specs.Panel.{seconds_of, reading_of, within, over}
 use Rattle.judgement.specs.Outcome.{judgement_of}
 use Rattle.panel.proofs.JudgeLaws.{panel-both, panel-exact}
-use borrow.Author.Rules.{rules}
 use Rattle.panel.proofs.panel.Goals as goal
 
 -- the reading, from the wait that was computed

@@ -1,13 +1,9 @@
 -- `panel::seconds_of` meets its contract: the refusal of the bucket, or else its two quotients.
 -- Assumes nothing.
-use mathlib.Core.Path.{◌≡◌, sym, ap, ap₂, ◌∙◌}
-use Rattle.terms.specs.Answers.{given, passed, lowest}
-use Rattle.terms.proofs.AnswersLaws.{answer-given, answer-refused}
-use Rattle.model.specs.Arrival.{Bucket, bucket}
-use Rattle.model.specs.Faults.{seconds_faults}
+use mathlib.Core.Path.{sym, ap, ◌∙◌}
+use Rattle.model.specs.Arrival.{bucket}
 use Rattle.judgement.specs.Outcome.{judgement_of}
 use Rattle.panel.proofs.JudgeLaws.{seconds-exact}
-use borrow.Author.Rules.{rules}
 use Rattle.panel.proofs.seconds_of.Goals as goal
 
 pub quotient-requires : goal.quotient-requires

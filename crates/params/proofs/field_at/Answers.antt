@@ -1,8 +1,7 @@
 -- `params::field_at` meets its contract: each return is the field that stands at its place (FieldAtLaws).
 -- Assumes nothing.
-use mathlib.Core.Path.{sym, ap, ◌∙◌}
-use borrow.Author.Rules.{rules}
-use Rattle.params.proofs.FieldAtLaws.{field_at, field-scale, field-row, field-tail}
+use mathlib.Core.Path.{sym, ◌∙◌}
+use Rattle.params.proofs.FieldAtLaws.{field-row, field-tail}
 use Rattle.params.proofs.field_at.Goals as goal
 
 pub returns-then-n-f : goal.returns-then-n-f

@@ -10,10 +10,10 @@ use mathlib.Core.List.{List, []}
 use lib.ListN.{length, get_or, take, drop, drop_of_length-le}
 use lib.Seq.{get_or-take, drop-cons, take-suc, length-take-le}
 use borrow.Author.Rules.{rules}
-use borrow.Author.Tests.{lt-ltb, not-true, not-false}
+use borrow.Author.Tests.{lt-ltb}
 use Rattle.rules.specs.Limits.{cpb_cnt_max}
 use Rattle.rules.specs.Refusals as refusal
-use Rattle.terms.specs.Answers.{Judgement, passed, refused}
+use Rattle.terms.specs.Answers.{passed, refused}
 use Rattle.terms.specs.Numbers.{outside}
 use Rattle.coding.specs.Fields.{Field, cpb_cnt_minus1, fields_of, place_of, keeps, fields_judged}
 use Rattle.coding.specs.Params.{Params, values_of, params_judged}
@@ -23,7 +23,7 @@ use Rattle.params.specs.Outcome.{params_of}
 use Rattle.params.specs.Steps.{stand_of, field_of, kept_by}
 use Rattle.params.specs.declared.Field as code
 use Rattle.params.proofs.FieldAtLaws.{fields_of-length}
-use Rattle.params.proofs.ValuesLaws.{Walk, walk-next, At, within-fields, within-values}
+use Rattle.params.proofs.ValuesLaws.{walk-next, At, within-fields, within-values}
 use Rattle.params.proofs.judge_params.Invariants.{judged_left, Judging}
 use Rattle.params.proofs.judge_params.Goals as goal
 

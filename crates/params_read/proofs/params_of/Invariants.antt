@@ -1,22 +1,9 @@
 -- `params_read::params_of` meets its contract. The loop's invariant: each of the three lists is that of the record with the `i` rows passed.
 -- The measure is what is left of the rows. Assumes nothing.
-use Prim.Native.Nat.{ℕ, ◌+◌, ◌-◌, ◌*◌, ◌≤◌, ◌<◌}
-use native.Mathlib.Nat.{add-zero}
-use native.Mathlib.Decide.{dec_le, ℕ_discrete}
-use native.Mathlib.Omega.{arith}
-use mathlib.Core.Path.{◌≡◌, refl, sym, ◌∙◌}
-use mathlib.Core.Bool.{cond}
-use mathlib.Core.Logic.{◌≢◌}
+use Prim.Native.Nat.{ℕ, ◌-◌, ◌≤◌}
+use mathlib.Core.Path.{◌≡◌}
 use mathlib.Core.List.{List}
-use lib.ListN.{get_or, set, length-set}
-use lib.Seq.{get_or-set_same, get_or-set_other, ext_get_or}
-use lib.Dec.{ltb}
-use borrow.Author.Rules.{rules}
-use borrow.Author.Tests.{lt-ltb, le-ltb}
-use Rattle.rules.specs.Limits.{cpb_cnt_max}
-use Rattle.terms.specs.Numbers.{list_of}
 use Rattle.coding.specs.Params.{rows_of}
-use Rattle.terms.proofs.NumbersLaws.{list_of-length, list_of-at}
 use Rattle.params_read.proofs.params_of.Given as goal
 
 -- each list is that of the record with the rows passed

@@ -6,8 +6,7 @@ use native.Mathlib.Omega.{arith}
 use mathlib.Core.Path.{◌≡◌, refl, sym, ap, ap₂, ◌∙◌}
 use mathlib.Core.List.{List, [], ◌∷◌, ◌++◌}
 use lib.ListN.{length, get_or, take, drop, set, length-set, drop_of_length-le}
-use lib.Seq.{length-take-le, take-suc, take-suc-set, drop-cons, get_or-take}
-use borrow.Author.Rules.{rules}
+use lib.Seq.{length-take-le, take-suc-set, drop-cons, get_or-take}
 use Rattle.coding.specs.Codes.{Bits, bits_of}
 use Rattle.coding.specs.Fields as fields
 use Rattle.coding.specs.Fields.{cpb_cnt_minus1, fields_after_count, fields_of, row_before, FieldsRead, read_fields}
@@ -73,17 +72,17 @@ read_field-step-requires c = field-width _ _ c.field_at-field.result c.loop-f-te
 
 pub returns-then-step-eq1 : goal.returns-then-step-eq1
 returns-then-step-eq1 c =
-    let turn-at : Turn (bits_of c.args.bytes.now) c.args.start c.args.n c.args.values.now c.loop-f.values c.loop-f.p c.loop-f.f c.field_at-field.result c.read_field-step.result = record { passed = c.loop-f.invariant; room = c.requires.2; inside = c.loop-f-test.true; same = c.field_at-field.ensures; read = c.read_field-step.ensures ∙ ap (λ m. field_step (bits_of c.args.bytes.now) (field_of c.field_at-field.result) (get_or c.loop-f.values m 0) c.loop-f.p) c.row_before-before.ensures; } in
+    let turn-at : Turn (bits_of c.args.bytes.now) c.args.start c.args.n c.args.values.now c.loop-f.values c.loop-f.p c.loop-f.f c.field_at-field.result c.read_field-step.result = record { passed = c.loop-f.invariant; room = c.requires.2; inside = c.loop-f-test.true; same = c.field_at-field.ensures; read = c.read_field-step.ensures ∙ ap (λ m. field_step (bits_of c.args.bytes.now) (field_of c.field_at-field.result) (get_or c.loop-f.values m 0) c.loop-f.p) c.row_before-before.ensures } in
     ends turn-at c.if-step-eq1.true
 
 pub returns-then-step-ne0 : goal.returns-then-step-ne0
 returns-then-step-ne0 c =
-    let turn-at : Turn (bits_of c.args.bytes.now) c.args.start c.args.n c.args.values.now c.loop-f.values c.loop-f.p c.loop-f.f c.field_at-field.result c.read_field-step.result = record { passed = c.loop-f.invariant; room = c.requires.2; inside = c.loop-f-test.true; same = c.field_at-field.ensures; read = c.read_field-step.ensures ∙ ap (λ m. field_step (bits_of c.args.bytes.now) (field_of c.field_at-field.result) (get_or c.loop-f.values m 0) c.loop-f.p) c.row_before-before.ensures; } in
+    let turn-at : Turn (bits_of c.args.bytes.now) c.args.start c.args.n c.args.values.now c.loop-f.values c.loop-f.p c.loop-f.f c.field_at-field.result c.read_field-step.result = record { passed = c.loop-f.invariant; room = c.requires.2; inside = c.loop-f-test.true; same = c.field_at-field.ensures; read = c.read_field-step.ensures ∙ ap (λ m. field_step (bits_of c.args.bytes.now) (field_of c.field_at-field.result) (get_or c.loop-f.values m 0) c.loop-f.p) c.row_before-before.ensures } in
     breaks turn-at c.if-step-eq1.false c.if-step-ne0.true
 
 pub loop-f-preserved : goal.loop-f-preserved
 loop-f-preserved c =
-    let turn-at : Turn (bits_of c.args.bytes.now) c.args.start c.args.n c.args.values.now c.loop-f.values c.loop-f.p c.loop-f.f c.field_at-field.result c.read_field-step.result = record { passed = c.loop-f.invariant; room = c.requires.2; inside = c.loop-f-test.true; same = c.field_at-field.ensures; read = c.read_field-step.ensures ∙ ap (λ m. field_step (bits_of c.args.bytes.now) (field_of c.field_at-field.result) (get_or c.loop-f.values m 0) c.loop-f.p) c.row_before-before.ensures; } in
+    let turn-at : Turn (bits_of c.args.bytes.now) c.args.start c.args.n c.args.values.now c.loop-f.values c.loop-f.p c.loop-f.f c.field_at-field.result c.read_field-step.result = record { passed = c.loop-f.invariant; room = c.requires.2; inside = c.loop-f-test.true; same = c.field_at-field.ensures; read = c.read_field-step.ensures ∙ ap (λ m. field_step (bits_of c.args.bytes.now) (field_of c.field_at-field.result) (get_or c.loop-f.values m 0) c.loop-f.p) c.row_before-before.ensures } in
     next turn-at c.if-step-ne0.false
 
 pub returns : goal.returns

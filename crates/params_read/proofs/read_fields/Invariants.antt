@@ -1,22 +1,11 @@
 -- `params_read::read_fields` meets its contract. The loop's invariant: reading goes on from field `f` with the values so far to what was to be read.
 -- The measure is what is left of the fields. Assumes nothing.
-use Prim.Native.Nat.{ℕ, suc, ◌+◌, ◌-◌, ◌*◌, ◌≤◌, ◌<◌}
-use native.Mathlib.Numerals.{add-one}
-use native.Mathlib.Omega.{arith}
-use mathlib.Core.Path.{◌≡◌, refl, sym, ap, ap₂, ◌∙◌}
-use mathlib.Core.List.{List, [], ◌∷◌, ◌++◌}
-use lib.ListN.{length, get_or, take, drop, set, length-set, drop_of_length-le}
-use lib.Seq.{length-take-le, take-suc, take-suc-set, drop-cons, get_or-take}
-use borrow.Author.Rules.{rules}
+use Prim.Native.Nat.{ℕ, ◌+◌, ◌-◌, ◌*◌, ◌≤◌}
+use mathlib.Core.Path.{◌≡◌}
+use mathlib.Core.List.{List, [], ◌∷◌}
+use lib.ListN.{length, take, drop}
 use Rattle.coding.specs.Codes.{Bits, bits_of}
-use Rattle.coding.specs.Fields as fields
-use Rattle.coding.specs.Fields.{cpb_cnt_minus1, fields_after_count, fields_of, row_before, FieldsRead, read_fields}
-use Rattle.params.specs.declared.Field.{Field}
-use Rattle.params.specs.Steps.{stand_of, field_of}
-use Rattle.params.proofs.FieldAtLaws.{field_at, fields_of-length, field-width}
-use Rattle.params_read.specs.declared.Step.{Step}
-use Rattle.params_read.specs.Steps.{step_of, field_step}
-use Rattle.params_read.proofs.ReadLaws.{on_step, read_fields-step, step-short, step-fault, step-took}
+use Rattle.coding.specs.Fields.{fields_after_count, fields_of, read_fields}
 use Rattle.params_read.proofs.read_fields.Given as goal
 
 -- reading goes on from field f

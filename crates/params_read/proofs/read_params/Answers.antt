@@ -9,7 +9,6 @@ use mathlib.Core.List.{List, [], ◌∷◌}
 use lib.ListN.{get_or, take}
 use lib.Seq.{get_or-take}
 use lib.Dec.{ltb}
-use borrow.Author.Rules.{rules}
 use borrow.Author.Tests.{ltb-true}
 use Rattle.rules.specs.Limits.{cpb_cnt_max}
 use Rattle.rules.specs.Refusals as refusal
@@ -19,7 +18,6 @@ use Rattle.coding.specs.Fields as fields
 use Rattle.coding.specs.Fields.{alone, cpb_cnt_minus1, fields_after_count, read_fields}
 use Rattle.coding.specs.Params.{Params, rows_of, params_with, params_reading, ParamsRead, read_answer}
 use Rattle.terms.proofs.NumbersLaws.{list_of-ext}
-use Rattle.params.proofs.FieldAtLaws.{field-width}
 use Rattle.params_read.specs.declared.FieldsRead.{FieldsRead}
 use Rattle.params_read.specs.declared.FieldsRead.TheVariants.{Done}
 use Rattle.params_read.specs.declared.Step.{Step}
@@ -100,6 +98,6 @@ pub returns-in-Done : goal.returns-in-Done
 returns-in-Done c =
     let x = bits_of c.args.bytes.now in
     let counted : Counted x c.args.start c.read_field-counted.result =
-        record { is = c.read_field-counted.ensures ∙ ap (λ g. field_step x g 0 c.args.start) c.field_at.ensures } in
+    record { is = c.read_field-counted.ensures ∙ ap (λ g. field_step x g 0 c.args.start) c.field_at.ensures } in
     let went = c.read_fields-reading.ensures in
     ap (found_with _) c.params_of.ensures ∙ sym (found counted c.if-counted-ne0.false _ _ went _ c.in-Done.is)

@@ -3,7 +3,7 @@
 use mathlib.Core.Path.{sym}
 use borrow.Author.Rules.{rules}
 use Rattle.coding.proofs.CodesLaws.{unsigned_bits-length}
-use Rattle.params.proofs.FieldAtLaws.{code-ue, code-u}
+use Rattle.params.proofs.FieldAtLaws.{code-u}
 use Rattle.params_write.proofs.field_length.Goals as goal
 
 pub returns : goal.returns

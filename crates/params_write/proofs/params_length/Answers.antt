@@ -1,6 +1,6 @@
 -- `params_write::params_length` meets its contract. The loop's invariant: the bits counted and those of the fields that are left are the record's,
 -- and are at most 63 for each field passed. The measure is what is left of the fields. Assumes nothing.
-use Prim.Native.Nat.{ℕ, ◌+◌, ◌-◌, ◌*◌, ◌≤◌, ◌<◌}
+use Prim.Native.Nat.{ℕ, ◌+◌, ◌*◌, ◌≤◌, ◌<◌}
 use native.Mathlib.Omega.{arith}
 use mathlib.Core.Path.{◌≡◌, ap}
 use lib.ListN.{length}
@@ -10,8 +10,8 @@ use Rattle.coding.specs.Params.{Params, params_bits}
 use Rattle.params.specs.Outcome.{params_of}
 use Rattle.params.specs.Steps.{code_of}
 use Rattle.params.specs.declared.Field as code
-use Rattle.params.proofs.ValuesLaws.{Walk, walk-judged, walk-next, At}
-use Rattle.params_write.proofs.WriteLaws.{bits_left, bits-none, length-more, field-ready}
+use Rattle.params.proofs.ValuesLaws.{walk-judged, walk-next, At}
+use Rattle.params_write.proofs.WriteLaws.{bits-none, length-more, field-ready}
 use Rattle.params_write.proofs.params_length.Invariants.{Counted}
 use Rattle.params_write.proofs.params_length.Goals as goal
 

@@ -1,17 +1,12 @@
 -- `params_write::params_length` meets its contract. The loop's invariant: the bits counted and those of the fields that are left are the record's,
 -- and are at most 63 for each field passed. The measure is what is left of the fields. Assumes nothing.
-use Prim.Native.Nat.{ℕ, ◌+◌, ◌-◌, ◌*◌, ◌≤◌, ◌<◌}
-use native.Mathlib.Omega.{arith}
-use mathlib.Core.Path.{◌≡◌, ap}
+use Prim.Native.Nat.{ℕ, ◌+◌, ◌-◌, ◌*◌, ◌≤◌}
+use mathlib.Core.Path.{◌≡◌}
 use lib.ListN.{length}
-use borrow.Author.Rules.{rules}
-use Rattle.coding.specs.Codes.{code_bits}
 use Rattle.coding.specs.Params.{Params, params_bits}
 use Rattle.params.specs.Outcome.{params_of}
-use Rattle.params.specs.Steps.{code_of}
-use Rattle.params.specs.declared.Field as code
-use Rattle.params.proofs.ValuesLaws.{Walk, walk-judged, walk-next, At}
-use Rattle.params_write.proofs.WriteLaws.{bits_left, bits-none, length-more, field-ready}
+use Rattle.params.proofs.ValuesLaws.{Walk}
+use Rattle.params_write.proofs.WriteLaws.{bits_left}
 use Rattle.params_write.proofs.params_length.Given as goal
 
 -- the bits of the first f fields

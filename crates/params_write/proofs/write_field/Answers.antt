@@ -2,7 +2,7 @@
 -- Assumes nothing.
 use borrow.Author.Rules.{rules}
 use Rattle.coding.proofs.CodesLaws.{unsigned_bits-length}
-use Rattle.params.proofs.FieldAtLaws.{code-ue, code-u}
+use Rattle.params.proofs.FieldAtLaws.{code-u}
 use Rattle.params_write.proofs.write_field.Goals as goal
 
 pub write_u-requires : goal.write_u-requires

@@ -1,6 +1,6 @@
 -- `params_write::write_fields` meets its contract. The loop's invariant: the fields that are left, written at `p` into the bytes as they are, end where
 -- the whole record does and give the bytes that it gives. The measure is what is left of the fields. Assumes nothing.
-use Prim.Native.Nat.{ℕ, ◌+◌, ◌-◌, ◌*◌, ◌^◌, ◌≤◌}
+use Prim.Native.Nat.{ℕ, ◌+◌, ◌*◌, ◌^◌, ◌≤◌}
 use native.Mathlib.Omega.{arith}
 use mathlib.Core.Path.{◌≡◌, refl, sym, ap, ◌∙◌}
 use mathlib.Core.List.{List}
@@ -12,7 +12,7 @@ use Rattle.coding.proofs.PutBitsLaws.{put_bits-length, put_bits-append}
 use Rattle.params.specs.Outcome.{params_of}
 use Rattle.params.specs.Steps.{code_of}
 use Rattle.params.specs.declared.Field as code
-use Rattle.params.proofs.ValuesLaws.{Walk, walk-judged, walk-next, At}
+use Rattle.params.proofs.ValuesLaws.{walk-judged, walk-next, At}
 use Rattle.params_write.proofs.WriteLaws.{bits_left, bits-none, bits-more, length-more, field-ready}
 use Rattle.params_write.proofs.write_fields.Invariants.{Written}
 use Rattle.params_write.proofs.write_fields.Goals as goal

@@ -1,16 +1,13 @@
 -- `print::print_sheet` meets its contract: the text is put together first, so that it is printed where there is room for it, and only there.
 -- Assumes nothing.
-use Prim.Native.Nat.{ℕ, ◌≤◌}
 use native.Mathlib.Omega.{arith}
-use mathlib.Core.Path.{◌≡◌, sym, ap, ◌∙◌}
-use mathlib.Core.List.{List}
-use borrow.Author.Rules.{rules}
-use lib.ListN.{length, take, replicate}
+use mathlib.Core.Path.{sym, ap, ◌∙◌}
+use lib.ListN.{length, replicate}
 use Rattle.rules.specs.Limits.{text_max}
-use Rattle.terms.specs.Answers.{Judgement, passed, room_check}
+use Rattle.terms.specs.Answers.{room_check}
 use Rattle.layout.specs.Sheet.{sheet_text}
 use Rattle.judgement.specs.Outcome.{judgement_of}
-use Rattle.print.proofs.PrintLaws.{print-fits, print-room, print-refused, print-roomy, print-given}
+use Rattle.print.proofs.PrintLaws.{print-fits, print-room, print-roomy, print-given}
 use Rattle.print.proofs.print_sheet.Goals as goal
 
 pub put_bytes-requires : goal.put_bytes-requires

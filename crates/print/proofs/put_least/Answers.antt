@@ -5,7 +5,6 @@ use native.Mathlib.Nat.{le_trans, le_of_eq}
 use native.Mathlib.Omega.{arith}
 use mathlib.Core.Path.{◌≡◌, ap, subst}
 use mathlib.Core.List.{List, map}
-use borrow.Author.Rules.{rules}
 use lib.ListN.{length, take, replicate, length-map}
 use Rattle.terms.specs.Numbers.{written}
 use Rattle.model.specs.Recording.{Recording, recording}

@@ -4,15 +4,12 @@ use Prim.Native.Nat.{ℕ, ◌≤◌}
 use native.Mathlib.Nat.{le_of_eq}
 use native.Mathlib.Omega.{arith}
 use mathlib.Core.Path.{◌≡◌, sym, subst, ◌∙◌}
-use mathlib.Core.List.{List}
 use borrow.Author.Rules.{rules}
 use lib.ListN.{length, replicate, length-replicate}
 use Rattle.rules.specs.Limits.{sheet_pictures_max, rows_max}
 use Rattle.rules.specs.Width.{Word}
 use Rattle.layout.specs.Text.{refusal_line}
-use Rattle.terms.specs.Answers as answers
-use Rattle.terms.specs.Answers.{first}
-use Rattle.layout.specs.Sheet.{sheet_faults, sheet_text}
+use Rattle.layout.specs.Sheet.{sheet_text}
 use Rattle.layout.proofs.TextLaws.{refusal_line-fits}
 use Rattle.text.specs.Put.{Put}
 use Rattle.print.proofs.PrintLaws as print

@@ -1,9 +1,6 @@
 -- `row_verdict::params_row` meets its contract: the refusal of the record or of the row's number, in this order, or else the row's rate and
 -- size (RowLaws). Assumes nothing.
-use mathlib.Core.Path.{◌≡◌, sym, ap, ◌∙◌}
-use borrow.Author.Rules.{rules}
-use Rattle.terms.specs.Answers.{passed}
-use Rattle.coding.specs.Params.{Params, params_judged}
+use mathlib.Core.Path.{sym, ap, ◌∙◌}
 use Rattle.params.specs.Outcome.{params_of}
 use Rattle.judgement.specs.Outcome.{judgement_of}
 use Rattle.row_verdict.proofs.RowLaws.{rate-scaled, size-scaled, figures-refused, figures-none, figures-given}

@@ -3,26 +3,16 @@
 use Prim.Native.Nat.{ℕ}
 use native.Mathlib.Omega.{arith}
 use mathlib.Core.Path.{◌≡◌, refl, sym, ap, ◌∙◌}
-use mathlib.Core.Logic.{⊎_elim}
-use mathlib.Core.List.{[], ◌∷◌}
-use denote.Enum.Declared.{tag_of}
-use types.Run.{OneOf}
-use borrow.Author.Rules.{rules}
-use lib.ListN.{get_or}
-use Rattle.rules.specs.Limits.{rate_shift}
 use Rattle.model.specs.Recording.{Recording, recording}
 use Rattle.model.specs.Arrival as arrival
-use Rattle.terms.specs.Answers.{given, passed}
+use Rattle.terms.specs.Answers.{given}
 use Rattle.model.specs.Outcomes.{verdict_outcome}
-use Rattle.coding.specs.Params.{Params, params_judged}
 use Rattle.row_verdict.specs.RowVerdict.{row_bucket}
 use Rattle.params.specs.Outcome.{params_of}
 use Rattle.judgement.specs.Outcome.{judgement_of}
 use Rattle.schedule.specs.Outcome.{answer_of}
 use Rattle.schedule.specs.declared.Verdict.{Verdict}
 use Rattle.schedule.specs.declared.Verdict.TheVariants as verdict
-use Rattle.schedule.specs.contracts.Verdict as declared
-use Rattle.row_verdict.specs.Rows.{Scaled}
 use Rattle.row_verdict.proofs.RowLaws.{record-refused, row-none, row-refused, row-constant, row-given, rate-scaled, size-scaled}
 use Rattle.row_verdict.proofs.row_verdict.Goals as goal
 

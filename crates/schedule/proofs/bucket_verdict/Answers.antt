@@ -1,14 +1,10 @@
 -- `schedule::bucket_verdict` meets its contract: the refusal of `judge`, or else what `run` saw, whose limits the judgement gives.
 -- Assumes nothing.
-use mathlib.Core.Path.{◌≡◌, sym, ap, ◌∙◌}
-use Rattle.terms.specs.Answers.{refused, passed, lowest}
+use mathlib.Core.Path.{sym, ap, ◌∙◌}
 use Rattle.model.specs.Recording.{Recording, recording}
-use Rattle.model.specs.Arrival.{Bucket, bucket}
-use Rattle.model.specs.Faults.{verdict_faults}
+use Rattle.model.specs.Arrival.{bucket}
 use Rattle.model.proofs.FaultsLaws.{verdict_faults-within}
 use Rattle.judgement.specs.Outcome.{judgement_of}
-use Rattle.schedule.proofs.OutcomeLaws.{verdict-refused, verdict-given}
-use borrow.Author.Rules.{rules}
 use Rattle.schedule.proofs.bucket_verdict.Goals as goal
 
 pub run-seen-requires : goal.run-seen-requires

@@ -4,7 +4,6 @@ use mathlib.Core.Path.{◌∙◌}
 use Rattle.model.specs.Recording.{recording}
 use Rattle.model.specs.Arrival.{bucket}
 use Rattle.schedule.proofs.OutcomeLaws.{judge-both}
-use borrow.Author.Rules.{rules}
 use Rattle.schedule.proofs.judge.Goals as goal
 
 pub returns : goal.returns

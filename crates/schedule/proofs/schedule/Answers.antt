@@ -1,15 +1,12 @@
 -- `schedule::schedule` meets its contract: a refusal, or else what `run` answers and stores in the entries that it is lent of each list.
 -- Assumes nothing.
 use native.Mathlib.Omega.{arith}
-use mathlib.Core.Path.{◌≡◌, sym, ap, ◌∙◌}
-use Rattle.terms.specs.Answers.{passed, lowest}
+use mathlib.Core.Path.{sym, ap, ◌∙◌}
 use Rattle.model.specs.Recording.{Recording, recording}
-use Rattle.model.specs.Arrival.{Bucket, bucket}
-use Rattle.model.specs.Faults.{schedule_faults}
+use Rattle.model.specs.Arrival.{bucket}
 use Rattle.model.proofs.FaultsLaws.{verdict_faults-within}
 use Rattle.judgement.specs.Outcome.{judgement_of}
-use Rattle.schedule.proofs.OutcomeLaws.{schedule-both, schedule-refused, Roomy, schedule-roomy, schedule-given}
-use borrow.Author.Rules.{rules}
+use Rattle.schedule.proofs.OutcomeLaws.{schedule-both, schedule-refused, schedule-roomy, schedule-given}
 use Rattle.schedule.proofs.schedule.Goals as goal
 
 pub returns-in-Refused : goal.returns-in-Refused

@@ -1,15 +1,12 @@
 -- `sheet::judge_header` meets its contract: what is refused first is refused, and what passes every test gives its counts and clock.
 -- Assumes nothing.
 use Prim.Native.Nat.{ℕ}
-use mathlib.Core.Path.{◌≡◌, sym, ap, ◌∙◌}
-use mathlib.Core.Bool.{false}
+use mathlib.Core.Path.{sym, ap, ◌∙◌}
 use mathlib.Core.List.{List}
-use borrow.Author.Rules.{rules}
 use Rattle.rules.specs.Limits.{sheet_pictures_max, rows_max}
 use Rattle.terms.specs.Numbers.{outside}
-use Rattle.layout.specs.Sheet.{picture_count, rate_count, head_of}
+use Rattle.layout.specs.Sheet.{head_of}
 use Rattle.terms.proofs.AnswersLaws.{answer-refused}
-use Rattle.terms.proofs.NumbersLaws.{outside-false}
 use Rattle.layout.proofs.SheetLaws.{header-short, header-pictures, header-rates, header-misplaced, header-passed}
 use Rattle.sheet.proofs.OpenLaws.{header-given}
 use Rattle.sheet.proofs.judge_header.Goals as goal

@@ -1,12 +1,7 @@
 -- `sheet::judge_lists` meets its contract: what was read are the sheet's lists, and its recording and its rates are judged and taken together.
 -- Assumes nothing.
-use Prim.Native.Nat.{ℕ, ◌+◌, ◌*◌, ◌≤◌}
 use native.Mathlib.Omega.{arith}
-use mathlib.Core.Path.{◌≡◌, ◌∙◌}
-use mathlib.Core.List.{List}
-use borrow.Author.Rules.{rules}
-use lib.ListN.{length, take}
-use Rattle.rules.specs.Limits.{header_bytes, sheet_pictures_max, rows_max}
+use mathlib.Core.Path.{◌∙◌}
 use Rattle.words.proofs.FrontLaws.{words-fit}
 use Rattle.sheet.proofs.OpenLaws.{head-fits, lists-both}
 use Rattle.sheet.proofs.judge_lists.Goals as goal

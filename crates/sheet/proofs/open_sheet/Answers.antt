@@ -1,20 +1,14 @@
 -- `sheet::open_sheet` meets its contract: a refusal, with the three lists as they were, or else the sheet's words at the front of each.
 -- Assumes nothing.
-use Prim.Native.Nat.{ℕ, ◌+◌, ◌*◌, ◌≤◌}
 use native.Mathlib.Omega.{arith}
 use mathlib.Core.Path.{◌≡◌, sym, ap, ◌∙◌}
-use mathlib.Core.List.{List}
-use borrow.Author.Rules.{rules}
-use lib.ListN.{length}
-use Rattle.rules.specs.Limits.{header_bytes, sheet_pictures_max, rows_max}
-use Rattle.terms.specs.Answers.{Judgement, passed, lowest, first}
+use Rattle.terms.specs.Answers.{passed, first}
 use Rattle.terms.proofs.AnswersLaws.{answer-passed}
 use Rattle.layout.specs.Sheet as sheet
 use Rattle.layout.specs.Sheet.{header_faults, list_faults, open_faults}
 use Rattle.judgement.specs.Outcome.{judgement_of}
-use Rattle.sheet.specs.declared.Head.{Head}
 use Rattle.sheet.specs.Outcome.{head_of, opened_of}
-use Rattle.sheet.proofs.OpenLaws.{head-fits, open-header, open-lists, open-rooms, open-refused, Roomy, open-roomy, open-given}
+use Rattle.sheet.proofs.OpenLaws.{head-fits, open-header, open-lists, open-rooms, open-refused, open-roomy, open-given}
 use Rattle.sheet.proofs.open_sheet.Goals as goal
 
 pub returns-in_default : goal.returns-in_default

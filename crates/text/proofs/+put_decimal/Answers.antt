@@ -41,17 +41,17 @@ put_decimal-end-requires t c =
 pub bounds-text-end : goal.bounds-text-end
 bounds-text-end t c =
     let p : Begun c.args.n c.args.text.now c.args.at c.if-n-ge10.text c.if-n-ge10.end =
-        elim c.if-n-ge10.branch [
-          | then-n-ge10 w ↦ begun-some c.args.n c.args.text.now c.args.at w.if-n-ge10.true (rw (w.text-is, w.end-is) w.put_decimal-end.ensures)
-          | else-n-ge10 w ↦ rw w.text-is (begun-none c.args.n c.args.text.now c.args.at c.if-n-ge10.end w.if-n-ge10.false w.end-is)
-        ] in
+    elim c.if-n-ge10.branch [
+      | then-n-ge10 w ↦ begun-some c.args.n c.args.text.now c.args.at w.if-n-ge10.true (rw (w.text-is, w.end-is) w.put_decimal-end.ensures)
+      | else-n-ge10 w ↦ rw w.text-is (begun-none c.args.n c.args.text.now c.args.at c.if-n-ge10.end w.if-n-ge10.false w.end-is)
+    ] in
     begun-room _ _ _ _ _ c.requires p
 
 pub returns : goal.returns
 returns t c =
     let p : Begun c.args.n c.args.text.now c.args.at c.if-n-ge10.text c.if-n-ge10.end =
-        elim c.if-n-ge10.branch [
-          | then-n-ge10 w ↦ begun-some c.args.n c.args.text.now c.args.at w.if-n-ge10.true (rw (w.text-is, w.end-is) w.put_decimal-end.ensures)
-          | else-n-ge10 w ↦ rw w.text-is (begun-none c.args.n c.args.text.now c.args.at c.if-n-ge10.end w.if-n-ge10.false w.end-is)
-        ] in
+    elim c.if-n-ge10.branch [
+      | then-n-ge10 w ↦ begun-some c.args.n c.args.text.now c.args.at w.if-n-ge10.true (rw (w.text-is, w.end-is) w.put_decimal-end.ensures)
+      | else-n-ge10 w ↦ rw w.text-is (begun-none c.args.n c.args.text.now c.args.at c.if-n-ge10.end w.if-n-ge10.false w.end-is)
+    ] in
     begun-all _ _ _ _ _ c.requires p

@@ -1,16 +1,15 @@
 -- `text::put_bytes` meets its contract. The loop's invariant: the first i bytes are put. The measure is what is left of the bytes.
 -- Assumes nothing.
-use Prim.Native.Nat.{ℕ, ◌+◌, ◌-◌, ◌≤◌, ◌<◌, zero-le}
-use native.Mathlib.Nat.{add-zero, add_assoc}
+use Prim.Native.Nat.{ℕ, ◌+◌, ◌≤◌, ◌<◌}
+use native.Mathlib.Nat.{add_assoc}
 use native.Mathlib.Numerals.{add-one}
 use native.Mathlib.Omega.{arith}
 use mathlib.Core.Path.{◌≡◌}
 use mathlib.Core.List.{List, [], ◌∷◌, ◌++◌}
-use borrow.Author.Rules.{rules}
 use lib.ListN.{length, get_or, take, set, length-take}
 use lib.Seq.{take-suc, take_all}
 use Rattle.text.specs.Put.{Room, Put}
-use Rattle.text.proofs.PutLaws.{put-none, put-length, put-more}
+use Rattle.text.proofs.PutLaws.{put-length, put-more}
 use Rattle.text.proofs.put_bytes.Invariants.{Begun}
 use Rattle.text.proofs.put_bytes.Goals as goal
 

@@ -2,9 +2,8 @@
 -- Assumes nothing.
 use mathlib.Core.List.{List, ◌++◌}
 use Prim.Native.Nat.{ℕ}
-use borrow.Author.Rules.{rules}
-use Rattle.layout.specs.Text.{letters, decimal, refusal_line}
-use Rattle.text.proofs.PutLaws.{Left, left-all, left-front, left-then}
+use Rattle.layout.specs.Text.{letters, decimal}
+use Rattle.text.proofs.PutLaws.{left-all, left-front, left-then}
 use Rattle.text.proofs.put_refusal.Goals as goal
 
 -- what is left behind each number, and before the second

@@ -2,9 +2,8 @@
 -- Assumes nothing.
 use Prim.Native.Nat.{ℕ}
 use mathlib.Core.List.{List, ◌++◌}
-use borrow.Author.Rules.{rules}
-use Rattle.layout.specs.Text.{letters, decimal, row_line}
-use Rattle.text.proofs.PutLaws.{Left, left-all, left-front, left-then}
+use Rattle.layout.specs.Text.{letters, decimal}
+use Rattle.text.proofs.PutLaws.{left-all, left-front, left-then}
 use Rattle.text.proofs.put_row.Goals as goal
 
 -- what is left behind each number

@@ -5,7 +5,7 @@ use mathlib.Core.List.{List}
 use lib.ListN.{length}
 use Rattle.layout.specs.Text.{letters, row_lines, table_text}
 use Rattle.text.specs.Put.{Room, Put}
-use Rattle.text.proofs.PutLaws.{put-length, Left, left-all, left-front, left-then}
+use Rattle.text.proofs.PutLaws.{Left, left-all, left-front, left-then}
 use Rattle.text.proofs.RowsLaws.{begun-none, begun-room, begun-more, begun-all}
 use Rattle.text.proofs.put_table.Goals as goal
 

@@ -1,12 +1,9 @@
 -- `words::read_words` meets its contract. The loop's invariant: the list begins with the words passed, and what stands behind them
 -- is as it was. The measure is what is left of the count.
 -- Assumes nothing.
-use Prim.Native.Nat.{◌+◌, ◌-◌, ◌*◌, ◌≤◌, zero-le}
-use native.Mathlib.Omega.{arith}
-use mathlib.Core.Path.{refl}
-use borrow.Author.Rules.{rules}
+use Prim.Native.Nat.{◌+◌, ◌-◌, ◌*◌, ◌≤◌}
 use Rattle.terms.specs.Words.{word_at}
-use Rattle.terms.proofs.FilledLaws.{Filled, filled-none, filled-more, filled-all}
+use Rattle.terms.proofs.FilledLaws.{Filled}
 use Rattle.words.proofs.read_words.Given as goal
 
 abbrev pub invariant-loop-i : goal.invariant-loop-i
