@@ -14,13 +14,13 @@ use Rattle.params.proofs.Unique.{position_of-one}
 use Rattle.params_write.specs.Outcome.{length_of}
 use Rattle.params_write.specs.Promises.{LengthPromise, WritePromise}
 use Rattle.params_write.specs.declared.Length.{Length}
-use Rattle.params_write.specs.declared.Length.TheVariants as length
+use Rattle.params_write.specs.declared.Length.TheVariants as lengths
 
 length_of-one : (v w : Length) → length_of v ≡ length_of w → v ≡ w
-length_of-one (length.Bits x) (length.Bits x') e = cc
-length_of-one (length.Bits x) (length.Refused n' i') e = let z : ◌≡◌ {A = ℕ} 0 1 = cc in absurd (omega arith)
-length_of-one (length.Refused n i) (length.Bits x') e = let z : ◌≡◌ {A = ℕ} 0 1 = cc in absurd (omega arith)
-length_of-one (length.Refused n i) (length.Refused n' i') e = cc
+length_of-one (lengths.Bits x) (lengths.Bits x') e = cc
+length_of-one (lengths.Bits x) (lengths.Refused n' i') e = let z : ◌≡◌ {A = ℕ} 0 1 = cc in absurd (omega arith)
+length_of-one (lengths.Refused n i) (lengths.Bits x') e = let z : ◌≡◌ {A = ℕ} 0 1 = cc in absurd (omega arith)
+length_of-one (lengths.Refused n i) (lengths.Refused n' i') e = cc
 
 pub length-unique : (p : Params) (v w : Length) → LengthPromise p v → LengthPromise p w → v ≡ w
 length-unique p v w a b = length_of-one v w (a ∙ sym b)

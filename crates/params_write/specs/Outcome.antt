@@ -8,11 +8,11 @@ use Rattle.coding.specs.Params as params
 use Rattle.params.specs.Outcome.{position_of}
 use Rattle.params.specs.declared.Position.{Position}
 use Rattle.params_write.specs.declared.Length.{Length}
-use Rattle.params_write.specs.declared.Length.TheVariants as length
+use Rattle.params_write.specs.declared.Length.TheVariants as lengths
 
 abbrev pub length_of : Length → Answer ℕ
-length_of (length.Bits n) = given n
-length_of (length.Refused number place) = refused number place
+length_of (lengths.Bits n) = given n
+length_of (lengths.Refused number place) = refused number place
 
 abbrev pub params_written : Position → (bytes : List ℕ) → params.ParamsWritten
 params_written r bytes = record { answer = position_of r; bytes = bytes }
