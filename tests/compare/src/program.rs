@@ -1,8 +1,8 @@
-//! The built program, target/bin/plan, run on a sheet.
+//! The built program, crates/plan/out/plan, run on a sheet.
 
 use std::io::Write;
 use std::path::Path;
-use std::process::{Child, Command, Stdio};
+use std::process::{Child, Command, Output, Stdio};
 
 /// What the program prints for these bytes on its standard input.
 pub fn run(sheet: &[u8]) -> Vec<u8> {
@@ -17,12 +17,27 @@ pub fn run_on(input: impl Into<Stdio>) -> Vec<u8> {
     printed(start(input.into()))
 }
 
+/// How the program ends that reads and writes what is handed in, and what it says of a fault.
+pub fn end_on(input: impl Into<Stdio>, output: impl Into<Stdio>) -> Output {
+    let mut command = program();
+    command.stdin(input).stdout(output).stderr(Stdio::piped());
+    started(command).wait_with_output().unwrap()
+}
+
+fn program() -> Command {
+    Command::new(Path::new(env!("CARGO_MANIFEST_DIR")).join("../../crates/plan/out/plan"))
+}
+
 fn start(input: Stdio) -> Child {
-    let path = Path::new(env!("CARGO_MANIFEST_DIR")).join("../../target/bin/plan");
-    let mut command = Command::new(&path);
-    match command.stdin(input).stdout(Stdio::piped()).spawn() {
+    let mut command = program();
+    command.stdin(input).stdout(Stdio::piped());
+    started(command)
+}
+
+fn started(mut command: Command) -> Child {
+    match command.spawn() {
         Ok(program) => program,
-        Err(fault) => panic!("{}: {fault}: run scripts/test first", path.display()),
+        Err(fault) => panic!("{command:?}: {fault}: run scripts/test first"),
     }
 }
 

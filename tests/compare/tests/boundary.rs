@@ -34,7 +34,7 @@ fn output_in(dialect: &str, source: &str, program: &str) -> String {
         "-I",
     ]);
     compile.arg(root().join("include")).arg(root().join(source));
-    compile.arg(root().join("target/staticlib/libplanner.a"));
+    compile.arg(root().join("crates/planner_c/out/libplanner_c.a"));
     output(compile.arg("-o").arg(&program));
     output(&mut Command::new(program))
 }

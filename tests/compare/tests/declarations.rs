@@ -1,15 +1,16 @@
 //! The boundary as it is written: the library (crates/*/src), include/planner.h and the wrapper
 //! (rust/src) declare the same structs and functions, and the comparison has every function but the
-//! version's. Constants: constants.rs.
+//! version's. Every export (crates/planner_c/src) has the arguments and the clauses of the function of
+//! its name (crates/planner/src), and calls it. Constants: constants.rs.
 
 mod declared;
 mod rules;
 
 use compare::operations::OPERATIONS;
 use declared::{by_c, by_rattle, by_rust, plain, plain_c, Declarations};
-use std::collections::BTreeSet;
+use std::collections::{BTreeMap, BTreeSet};
 use std::fs::{read_dir, read_to_string};
-use std::path::Path;
+use std::path::{Path, PathBuf};
 
 /// A text: where it stands, how it is read, and the words that stand in it once for each function and
 /// once for each struct.
@@ -24,7 +25,7 @@ const SOURCES: [Source; 3] = [
     Source {
         place: "crates/*/src",
         declared: by_rattle,
-        function: "#[no_mangle]",
+        function: "#[unsafe(no_mangle)]",
         structure: "#[repr(C)]",
     },
     Source {
@@ -41,13 +42,21 @@ const SOURCES: [Source; 3] = [
     },
 ];
 
+fn root() -> PathBuf {
+    Path::new(env!("CARGO_MANIFEST_DIR")).join("../..")
+}
+
 /// The three texts without comments and layout.
 fn texts() -> [String; 3] {
-    let root = Path::new(env!("CARGO_MANIFEST_DIR")).join("../..");
-    let mut rattle = String::new();
-    for folder in read_dir(root.join("crates")).unwrap() {
-        rattle += &text_below(&folder.unwrap().path().join("src"), "rt");
-    }
+    let root = root();
+    let folders = read_dir(root.join("crates")).unwrap();
+    let mut folders: Vec<PathBuf> = folders.map(|entry| entry.unwrap().path()).collect();
+    // The exports come first: each has the name of the function that it calls.
+    folders.sort_by_key(|folder| !folder.ends_with("planner_c"));
+    let rattle: String = folders
+        .iter()
+        .map(|folder| text_below(&folder.join("src"), "rt"))
+        .collect();
     let limits = rules::limits();
     let rows = limits.iter().find(|limit| limit.0 == "CPB_CNT_MAX");
     let rows = rows.unwrap().1;
@@ -130,7 +139,7 @@ fn nothing_is_overlooked() {
 type Edit = (&'static str, &'static str, &'static str);
 
 /// Edits of a text of Rattle or Rust.
-const EDITS: [Edit; 11] = [
+const EDITS: [Edit; 10] = [
     ("struct PlannerSeconds {", "wait: f64", "wait: u64"),
     ("struct PlannerSeconds {", "fill: f64", "full: f64"),
     (
@@ -140,7 +149,6 @@ const EDITS: [Edit; 11] = [
     ),
     ("struct PlannerSeconds {", "pub place: u64,", ""),
     ("struct Params {", "[u64; 32]", "[u64; 31]"),
-    ("#[repr(C)] pub struct PlannerText {", "#[repr(C)]", ""),
     ("fn planner_seconds(", "buffer: u64", "buffer: f64"),
     ("fn planner_seconds(", "fullness: u64", "full: u64"),
     (
@@ -156,16 +164,22 @@ const EDITS: [Edit; 11] = [
     ),
 ];
 
-const RATTLE_EDITS: [Edit; 2] = [
+const RATTLE_EDITS: [Edit; 3] = [
+    (
+        "#[repr(C)] #[derive(Drop)] pub struct PlannerText {",
+        "#[repr(C)]",
+        "",
+    ),
     ("fn planner_judge(", "&[u64]", "&mut [u64]"),
     (
-        "#[no_mangle] pub extern \"C\" fn planner_seconds(",
-        "#[no_mangle] pub extern \"C\"",
+        "#[unsafe(no_mangle)] pub extern \"C\" fn planner_seconds(",
+        "#[unsafe(no_mangle)] pub extern \"C\"",
         "",
     ),
 ];
 
-const RUST_EDITS: [Edit; 2] = [
+const RUST_EDITS: [Edit; 3] = [
+    ("#[repr(C)] pub struct PlannerText {", "#[repr(C)]", ""),
     ("fn planner_judge(", "*const u64", "*mut u64"),
     (
         "pub fn planner_seconds(",
@@ -216,7 +230,7 @@ const REFUSED: [(usize, Edit); 6] = [
     (
         0,
         (
-            "#[repr(C)] pub struct PlannerText {",
+            "#[repr(C)] #[derive(Drop)] pub struct PlannerText {",
             "repr(C)",
             "repr(C, packed)",
         ),
@@ -224,8 +238,8 @@ const REFUSED: [(usize, Edit); 6] = [
     (
         0,
         (
-            "#[no_mangle] pub extern \"C\" fn planner_seconds(",
-            "#[no_mangle]",
+            "#[unsafe(no_mangle)] pub extern \"C\" fn planner_seconds(",
+            "#[unsafe(no_mangle)]",
             "",
         ),
     ),
@@ -280,5 +294,87 @@ fn what_is_not_understood_is_refused() {
         let edited = edited(&texts, number, edit);
         let read = std::panic::catch_unwind(|| all_declared(&edited));
         assert!(read.is_err(), "{number}: {edit:?}");
+    }
+}
+
+/// A function of Rattle: what stands before its body, arguments and clauses, and its body.
+type Promised = BTreeMap<String, (String, String)>;
+
+/// The functions of a crate's text that have the prefix, each with a clause.
+fn promised(text: &str) -> Promised {
+    let mut promised = Promised::new();
+    for function in text.split("fn planner_").skip(1) {
+        let (contract, rest) = function.split_once(" } { ").unwrap();
+        let (body, _) = rest.split_once(" }").unwrap();
+        let (name, clauses) = contract.split_once('(').unwrap();
+        assert!(clauses.contains(" ensures { "), "{name} without a clause");
+        let before = (contract.to_string(), body.to_string());
+        assert_eq!(promised.insert(name.to_string(), before), None, "{name}");
+    }
+    promised
+}
+
+/// The call of a function of the same name on its arguments, from the last part of its path on.
+fn call(contract: &str) -> String {
+    let (name, rest) = contract.split_once('(').unwrap();
+    let (arguments, _) = rest.split_once(')').unwrap();
+    let names = arguments
+        .split(", ")
+        .filter_map(|one| one.split_once(": "))
+        .map(|(name, _)| name);
+    let names: Vec<&str> = names.collect();
+    format!("::planner_{name}({})", names.join(", "))
+}
+
+/// What the exports have amiss beside the functions of their names.
+fn unlike(exports: &str, functions: &str) -> Vec<String> {
+    let (exports, functions) = (promised(exports), promised(functions));
+    let names: BTreeSet<&String> = exports.keys().chain(functions.keys()).collect();
+    let is_unlike = |name: &&String| {
+        let (Some(export), Some(function)) = (exports.get(*name), functions.get(*name)) else {
+            return true;
+        };
+        let calls = export.1.starts_with("planner::") && export.1.ends_with(&call(&export.0));
+        export.0 != function.0 || !calls
+    };
+    names.into_iter().filter(is_unlike).cloned().collect()
+}
+
+fn plain_of(name: &str) -> String {
+    plain(&text_below(
+        &root().join("crates").join(name).join("src"),
+        "rt",
+    ))
+}
+
+#[test]
+fn every_export_promises_what_it_calls() {
+    let (exports, functions) = (plain_of("planner_c"), plain_of("planner"));
+    assert_eq!(promised(&exports).len(), OPERATIONS.len() + 1);
+    assert_eq!(unlike(&exports, &functions), [""; 0]);
+}
+
+#[test]
+fn an_export_that_is_unlike_is_noticed() {
+    let (exports, functions) = (plain_of("planner_c"), plain_of("planner"));
+    for (old, new) in [
+        (
+            "ensures { ExportedLeast (recording sizes.now ticks.now ts nu) rate result }",
+            "ensures { Unit {0} }",
+        ),
+        ("fn planner_panel(rate: u64", "fn planner_panel(rates: u64"),
+        (
+            "planner::seconds::planner_seconds(rate, buffer, fullness)",
+            "planner::seconds::planner_seconds(rate, fullness, buffer)",
+        ),
+        (
+            "planner::records::planner_params_length(params)",
+            "planner::records::planner_judge_params(params)",
+        ),
+        ("fn planner_version(", "fn version("),
+    ] {
+        assert_eq!(exports.matches(old).count(), 1, "{old}");
+        let edited = exports.replace(old, new);
+        assert_eq!(unlike(&edited, &functions).len(), 1, "{old} to {new}");
     }
 }

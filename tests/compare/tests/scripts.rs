@@ -41,7 +41,8 @@ fn folder(name: &str) -> PathBuf {
     folder
 }
 
-/// An empty folder outside the repository, which every user may enter; removed in the end.
+/// An empty folder outside the repository, which every user may enter; removed in the end. Links
+/// stand in such a folder alone: the prover takes no repository that has some, in whichever folder.
 struct Outside(PathBuf);
 
 impl Outside {
@@ -214,7 +215,8 @@ fn the_largest_sheet_and_one_byte_more() {
 
 #[test]
 fn by_a_link_from_another_folder() {
-    let folder = folder("link");
+    let outside = Outside::new("link");
+    let folder = &outside.0;
     let link = folder.join("planned");
     symlink(script("plan"), &link).unwrap();
     fs::write(folder.join("-"), SHEET_D).unwrap();
@@ -225,7 +227,8 @@ fn by_a_link_from_another_folder() {
 /// With nothing on the PATH but `sed`.
 #[test]
 fn help_starts_nothing() {
-    let bin = folder("help");
+    let outside = Outside::new("help");
+    let bin = &outside.0;
     symlink(on_path("sed"), bin.join("sed")).unwrap();
     for entry in fs::read_dir(root().join("scripts")).unwrap() {
         let path = entry.unwrap().path();
@@ -238,7 +241,7 @@ fn help_starts_nothing() {
         let name = path.file_name().unwrap().to_str().unwrap();
         assert!(header.contains(&format!("  scripts/{name}")), "{path:?}");
         for word in ["--help", "-h"] {
-            let said = run(Command::new(&path).arg(word).env("PATH", &bin));
+            let said = run(Command::new(&path).arg(word).env("PATH", bin));
             prints(&said, 0, &header);
         }
     }
@@ -306,9 +309,10 @@ fn path_without_cargo(folder: &Path) -> PathBuf {
 
 #[test]
 fn without_cargo() {
-    let folder = folder("without_cargo");
+    let outside = Outside::new("without-cargo");
+    let folder = &outside.0;
     let mut command = Command::new(script("plan"));
-    command.env("PATH", path_without_cargo(&folder));
+    command.env("PATH", path_without_cargo(folder));
     prints(&run(command.arg(sheet_d())), 0, TABLE_D);
     assert!(!folder.join("mark").exists());
 }
@@ -321,10 +325,9 @@ fn small_checkout(folder: &Path) {
         "--parents",
         "scripts/plan",
         "scripts/setup",
-        "target/bin/plan",
+        "crates/plan/out/plan",
     ]);
     printed(copy.arg(folder).current_dir(root()));
-    fs::create_dir(folder.join("crates")).unwrap();
     fs::write(folder.join("crates.txt"), "").unwrap();
     fs::write(folder.join("d.sheet"), SHEET_D).unwrap();
 }
@@ -349,10 +352,61 @@ fn a_checkout_that_cannot_be_written() {
     prints(&said, 0, TABLE_D);
     says(&said, "is read-only: the program built before is used");
 
-    fs::remove_file(checkout.join("target/bin/plan")).unwrap();
-    plan_fails(&plan_as_nobody(checkout), 4, "target/bin/plan");
+    fs::remove_file(checkout.join("crates/plan/out/plan")).unwrap();
+    plan_fails(&plan_as_nobody(checkout), 4, "crates/plan/out/plan");
     set_mode(&checkout.join("d.sheet"), 0);
     plan_fails(&plan_as_nobody(checkout), 2, "d.sheet");
+}
+
+/// What scripts/test says where the kit's gate prints these lines and ends with a status, and where
+/// Cargo and all else pass.
+fn gate(name: &str, lines: &str, status: i32) -> Said {
+    let checkout = folder(name);
+    let mut copy = Command::new("cp");
+    copy.args(["-p", "--parents", "scripts/test", "scripts/setup"]);
+    printed(copy.arg(&checkout).current_dir(root()));
+    for made in ["bin", "crates/planner_c", "crates/plan"] {
+        fs::create_dir_all(checkout.join(made)).unwrap();
+    }
+    fs::write(checkout.join("lines"), lines).unwrap();
+    let bin = checkout.join("bin");
+    let kit = format!("#!/bin/sh\n[ \"$*\" = ci ] || exit 0\ncat lines\nexit {status}\n");
+    write_program(&bin.join("rt"), &kit);
+    write_program(&bin.join("cargo"), "#!/bin/sh\n");
+    let path = format!("{}:{}", bin.display(), std::env::var("PATH").unwrap());
+    run(Command::new(checkout.join("scripts/test")).env("PATH", path))
+}
+
+#[test]
+fn the_gate_ends_as_the_kit_does() {
+    let passed = "29 passed, 0 failed\n";
+    let ok = "rt: ok; handles allowed: none; must-fail edits: 93 refused; every proof was done\n";
+    let said = gate("gate", &format!("{ok}{passed}"), 0);
+    prints(&said, 0, &format!("{ok}{passed}{passed}"));
+    let limit = ok.replace("refused", "refused, 2 of them only by a limit");
+    let said = gate("gate_limit", &format!("{limit}{passed}"), 0);
+    prints(&said, 0, &format!("{limit}{passed}{passed}"));
+
+    let failed = "rt: FAILED: print\n28 passed, 1 failed\n";
+    prints(&gate("gate_failed", failed, 1), 1, failed);
+}
+
+/// The kit's gate passes over an edit that cannot be applied, and scripts/test does not.
+#[test]
+fn an_edit_that_cannot_be_applied_fails_the_gate() {
+    let passed = "29 passed, 0 failed\n";
+    for (number, bad) in ["1 bad", "2 of them only by a limit, 10 bad"]
+        .into_iter()
+        .enumerate()
+    {
+        let ok = format!("rt: ok; handles allowed: none; must-fail edits: 9 refused, {bad}; all\n");
+        let said = gate(&format!("gate_bad_{number}"), &format!("{ok}{passed}"), 0);
+        prints(&said, 1, &format!("{ok}{passed}"));
+        assert!(said.err.ends_with("are bad: mend them\n"), "{said:?}");
+    }
+    let said = gate("gate_silent", passed, 0);
+    prints(&said, 1, passed);
+    assert!(said.err.contains("no line 'rt: ok'"), "{said:?}");
 }
 
 /// A PATH with a kit before all else that does nothing but end with a status.
@@ -373,7 +427,7 @@ fn plan_with_kit(name: &str, status: i32) -> Said {
 fn a_program_that_has_to_be_built() {
     let said = plan_with_kit("built", 0);
     prints(&said, 0, TABLE_D);
-    says(&said, "about a minute");
+    says(&said, "is being proved and built");
 }
 
 #[test]
@@ -381,7 +435,7 @@ fn a_text_that_is_cut_short() {
     let checkout = folder("cut_short");
     small_checkout(&checkout);
     let cut = "#!/bin/sh\nprintf 'rate buffer start\\n250 10'\n";
-    write_program(&checkout.join("target/bin/plan"), cut);
+    write_program(&checkout.join("crates/plan/out/plan"), cut);
     let mut command = Command::new(checkout.join("scripts/plan"));
     command.env("PATH", path_with_kit(&checkout, 0));
     let said = run(command.arg("d.sheet").current_dir(checkout));
@@ -399,14 +453,15 @@ fn a_program_that_is_not_proved_is_not_run() {
 /// By a link from another folder; what is built runs anywhere.
 #[test]
 fn the_command_is_built() {
-    let folder = folder("build");
+    let outside = Outside::new("build");
+    let folder = &outside.0;
     let link = folder.join("built");
     symlink(script("build"), &link).unwrap();
-    let program = printed(Command::new(link).current_dir(&folder));
+    let program = printed(Command::new(link).current_dir(folder));
     let built = root().canonicalize().unwrap().join("build/kashuloden");
     assert_eq!(program, format!("{}\n", built.display()));
     let mut command = Command::new(built);
-    command.args(["sheet", "text", "-"]).current_dir(&folder);
+    command.args(["sheet", "text", "-"]).current_dir(folder);
     command.stdin(fs::File::open(sheet_d()).unwrap());
     assert_eq!(printed(&mut command), TABLE_D);
 }
@@ -417,6 +472,7 @@ fn a_command_whose_library_is_not_proved_is_not_built() {
     let mut copy = Command::new("cp");
     copy.args(["-p", "--parents", "scripts/build", "scripts/setup"]);
     printed(copy.arg(&checkout).current_dir(root()));
+    fs::create_dir_all(checkout.join("crates/planner_c")).unwrap();
     let mut command = Command::new(checkout.join("scripts/build"));
     let said = run(command.env("PATH", path_with_kit(&checkout, 1)));
     prints(&said, 4, "");
@@ -430,11 +486,12 @@ fn installed() -> &'static Path {
     static TREE: OnceLock<PathBuf> = OnceLock::new();
     TREE.get_or_init(|| {
         let folder = folder("install");
-        let link = folder.join("installed");
+        let outside = Outside::new("install");
+        let link = outside.0.join("installed");
         symlink(script("install"), &link).unwrap();
         let mut command = Command::new(link);
         command.arg("tree").current_dir(&folder);
-        let said = run(command.env("PATH", path_without_cargo(&folder)));
+        let said = run(command.env("PATH", path_without_cargo(&outside.0)));
         let files = [
             "lib/libplanner.a",
             "include/planner.h",
@@ -443,7 +500,7 @@ fn installed() -> &'static Path {
         let tree = folder.join("tree");
         let lines = files.map(|file| format!("{}\n", tree.join(file).display()));
         prints(&said, 0, &lines.concat());
-        assert!(!folder.join("mark").exists());
+        assert!(!outside.0.join("mark").exists());
 
         let moved = folder.join("moved");
         fs::rename(tree, &moved).unwrap();
@@ -552,6 +609,7 @@ fn a_library_that_is_not_proved_is_not_installed() {
     let mut copy = Command::new("cp");
     copy.args(["-p", "--parents", "scripts/install", "scripts/setup"]);
     printed(copy.arg(&checkout).current_dir(root()));
+    fs::create_dir_all(checkout.join("crates/planner_c")).unwrap();
     let mut command = Command::new(checkout.join("scripts/install"));
     command.env("PATH", path_with_kit(&checkout, 1));
     let said = run(command.arg("tree").current_dir(&checkout));

@@ -31,14 +31,19 @@ fn page() -> String {
     read_to_string(root().join(OWN[0])).unwrap()
 }
 
-/// Every file at a place or below it.
+/// Every file at a place or below it, but for what the prover makes, crates/*/out.
 fn files(place: &Path) -> Vec<PathBuf> {
     if !place.is_dir() {
         return vec![place.to_path_buf()];
     }
-    let entries = read_dir(place).unwrap();
-    entries
-        .flat_map(|entry| files(&entry.unwrap().path()))
+    let paths = read_dir(place).unwrap().map(|entry| entry.unwrap().path());
+    let is_made = |path: &PathBuf| {
+        let above = path.parent().and_then(Path::parent);
+        path.ends_with("out") && above == Some(&root().join("crates"))
+    };
+    paths
+        .filter(|path| !is_made(path))
+        .flat_map(|path| files(&path))
         .collect()
 }
 
@@ -221,8 +226,8 @@ fn what_is_amiss_is_noticed() {
         ("| 001 |", "| 01 |"),
         ("`tests/data/table_d2.txt`", "`tests/data/table_d1.txt`"),
         ("`crates/rules/specs/Refusals.antt`", "`Refusals.antt`"),
-        ("`needsStep`", "`needStep`"),
-        ("`lateBy`", "`leastBuffer`"),
+        ("`needs_step`", "`need_step`"),
+        ("`late_by`", "`least_buffer`"),
     ] {
         assert_eq!(whole.matches(old).count(), 1, "{old}");
         assert_eq!(amiss(&whole.replace(old, new)).len(), 1, "{old} to {new}");

@@ -97,10 +97,10 @@ fn what_is_amiss_is_noticed() {
         ("`wide`, ", ""),
         ("`wide`, ", "`wide`, `wide`, "),
         ("`wide`, ", "`wide`, `widest`, "),
-        ("`needsOf-one`", "`needsOf-two`"),
+        ("`needs_of-one`", "`needs_of-two`"),
         (
-            "`judgement`: `judgementOf-one`",
-            "`numbers`: `judgementOf-one`",
+            "`judgement`: `judgement_of-one`",
+            "`numbers`: `judgement_of-one`",
         ),
         ("`fullnesses_unspoken` |", "`fullnesses_spoken` |"),
     ] {

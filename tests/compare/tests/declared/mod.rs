@@ -51,7 +51,7 @@ fn without_layout<'a>(parts: impl Iterator<Item = &'a str>) -> String {
 
 pub fn by_rattle(text: &str) -> Declarations {
     let mut declared = with_structs(text);
-    let exported = text.split("#[no_mangle] ").skip(1);
+    let exported = text.split("#[unsafe(no_mangle)] ").skip(1);
     let named = text.matches("extern \"C\"").count();
     assert_eq!(exported.clone().count(), named, "extern, but not exported");
     for function in exported {
