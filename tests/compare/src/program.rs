@@ -2,7 +2,7 @@
 
 use std::io::Write;
 use std::path::Path;
-use std::process::{Child, Command, Output, Stdio};
+use std::process::{Child, Command, Stdio};
 
 /// What the program prints for these bytes on its standard input.
 pub fn run(sheet: &[u8]) -> Vec<u8> {
@@ -17,27 +17,12 @@ pub fn run_on(input: impl Into<Stdio>) -> Vec<u8> {
     printed(start(input.into()))
 }
 
-/// How the program ends that reads and writes what is handed in, and what it says of a fault.
-pub fn end_on(input: impl Into<Stdio>, output: impl Into<Stdio>) -> Output {
-    let mut command = program();
-    command.stdin(input).stdout(output).stderr(Stdio::piped());
-    started(command).wait_with_output().unwrap()
-}
-
-fn program() -> Command {
-    Command::new(Path::new(env!("CARGO_MANIFEST_DIR")).join("../../crates/plan/out/plan"))
-}
-
 fn start(input: Stdio) -> Child {
-    let mut command = program();
-    command.stdin(input).stdout(Stdio::piped());
-    started(command)
-}
-
-fn started(mut command: Command) -> Child {
-    match command.spawn() {
+    let path = Path::new(env!("CARGO_MANIFEST_DIR")).join("../../crates/plan/out/plan");
+    let mut command = Command::new(&path);
+    match command.stdin(input).stdout(Stdio::piped()).spawn() {
         Ok(program) => program,
-        Err(fault) => panic!("{command:?}: {fault}: run scripts/test first"),
+        Err(fault) => panic!("{}: {fault}: run scripts/test first", path.display()),
     }
 }
 

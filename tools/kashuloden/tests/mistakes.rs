@@ -2,7 +2,7 @@
 
 mod common;
 
-use common::{call, folder, root, run, say};
+use common::{call, folder, root, run, say, Outside};
 use std::fs;
 use std::os::unix::fs::{symlink, PermissionsExt};
 use std::process::Command;
@@ -724,9 +724,10 @@ fn input_without_end() {
 
 #[test]
 fn output_to_a_file() {
-    let folder = folder("output_to_a_file");
+    let outside = Outside::new("output");
+    let folder = &outside.0;
     let files = || {
-        let names = fs::read_dir(&folder)
+        let names = fs::read_dir(folder)
             .unwrap()
             .map(|entry| entry.unwrap().file_name());
         let mut names: Vec<String> = names.map(|name| name.into_string().unwrap()).collect();

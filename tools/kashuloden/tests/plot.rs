@@ -2,7 +2,7 @@
 
 mod common;
 
-use common::{folder, root, say, Said};
+use common::{folder, root, say, Outside, Said};
 use std::fs;
 use std::os::unix::fs::symlink;
 use std::path::Path;
@@ -141,7 +141,8 @@ fn what_is_not_drawn() {
 /// With a PATH that has no gnuplot: the script installs it, here from a stand-in for apt-get.
 #[test]
 fn gnuplot_is_installed_where_it_is_missing() {
-    let folder = folder("without_gnuplot");
+    let outside = Outside::new("without-gnuplot");
+    let folder = &outside.0;
     let bin = folder.join("bin");
     fs::create_dir(&bin).unwrap();
     for entry in fs::read_dir("/usr/bin")

@@ -22,6 +22,25 @@ pub fn folder(name: &str) -> PathBuf {
     folder
 }
 
+/// An empty folder outside the repository, for links: the prover takes no repository that has some.
+/// Removed in the end.
+pub struct Outside(pub PathBuf);
+
+impl Outside {
+    pub fn new(name: &str) -> Outside {
+        let name = format!("kashuloden-{name}-{}", std::process::id());
+        let folder = std::env::temp_dir().join(name);
+        fs::create_dir(&folder).unwrap();
+        Outside(folder)
+    }
+}
+
+impl Drop for Outside {
+    fn drop(&mut self) {
+        let _ = fs::remove_dir_all(&self.0);
+    }
+}
+
 pub struct Said {
     pub status: i32,
     pub out: Vec<u8>,
