@@ -104,8 +104,8 @@ impl<'a> File<'a> {
         let params = tokens.find(at, &["("]);
         let mut open = tokens.find(params, &["{", ";"]);
         let mut answer_end = open;
-        while let "requires" | "ensures" | "ghost" = tokens[open - 1].text {
-            answer_end = answer_end.min(open - 1);
+        while let Some(clause) = self.clause(open) {
+            answer_end = answer_end.min(clause);
             open = tokens.find(tokens.partner(open) + 1, &["{", ";"]);
         }
         let answer = tokens.partner(params) + 2;
@@ -118,6 +118,13 @@ impl<'a> File<'a> {
             body: tokens.inside(open),
         });
         tokens.partner(open)
+    }
+
+    /// Where the clause begins whose block this is, with its word and maybe a name.
+    fn clause(&self, open: usize) -> Option<usize> {
+        let is_word =
+            |at: &usize| ["requires", "ensures", "ghost"].contains(&self.tokens[*at].text);
+        [open - 1, open - 2].into_iter().find(is_word)
     }
 
     fn all_typed(&self, list: Range<usize>) -> Vec<Typed<'a>> {

@@ -94,7 +94,9 @@ fn run(words: &[String]) -> io::Result<bool> {
 fn sources(crates: &str) -> io::Result<Vec<Source>> {
     let lines = crates.lines().filter(|line| !line.starts_with('#'));
     let mut sources = Vec::new();
-    for (home, _) in lines.filter_map(|line| line.split_once(':')) {
+    // Behind the name stands what else the crate is, as in `planner_c staticlib: ..`.
+    let heads = lines.filter_map(|line| line.split_once(':'));
+    for home in heads.filter_map(|(head, _)| head.split_whitespace().next()) {
         let folder = fs::read_dir(Path::new("crates").join(home).join("src"))?;
         let paths: io::Result<Vec<PathBuf>> = folder.map(|entry| Ok(entry?.path())).collect();
         let mut paths = paths?;

@@ -3,7 +3,7 @@
 use std::fmt::{Display, Formatter};
 use std::path::{Path, PathBuf};
 use std::process::Command;
-use std::{fmt, fs, io};
+use std::{env, fmt, fs, io};
 
 /// What the prover says of a changed crate.
 #[derive(Clone, Debug, PartialEq, Eq)]
@@ -28,53 +28,47 @@ impl Display for Verdict {
     }
 }
 
-/// A copy of the crates below `target/`, where `rt` looks for none. What was proved of it stays for
-/// the next time.
+/// A copy of the crates outside the repository, in a folder for temporary files: the prover takes no
+/// repository that has such a copy. What was proved of it stays for the next time.
 pub struct Scratch {
     root: PathBuf,
 }
 
 impl Scratch {
     pub fn of(repository: &Path) -> io::Result<Self> {
-        let root = repository.join("target/mutants");
-        fs::create_dir_all(&root)?;
-        let root = root.canonicalize()?;
+        let path = repository.canonicalize()?.display().to_string();
+        let root = env::temp_dir().join(format!("mutants{}", path.replace('/', "-")));
         let crates = root.join("crates");
-        if crates.exists() {
-            fs::remove_dir_all(&crates)?;
-        }
-        copy_folder(&repository.join("crates"), &crates)?;
+        fs::create_dir_all(&crates)?;
+        remove_all_but_made(&crates)?;
+        copy_crates(&repository.join("crates"), &crates)?;
         fs::copy(repository.join("crates.txt"), root.join("crates.txt"))?;
         Ok(Scratch { root })
     }
 
     /// Proves a crate as it is copied, and what it depends on.
     pub fn prove(&self, name: &str) -> io::Result<()> {
-        match self.run("dev", name)? {
+        match self.check(name)? {
             (Verdict::NotRefused, _) => Ok(()),
             (_, words) => Err(io::Error::other(format!("{name} is not proved:\n{words}"))),
         }
     }
 
     /// The verdict on a crate, one of whose files has another text, and the prover's own words.
-    /// `rt dev` proves again what the change touches, and its refusal is one; what it lets pass is
-    /// for `rt check` to judge.
     pub fn judge(&self, name: &str, path: &Path, text: &str) -> io::Result<(Verdict, String)> {
         let path = self.root.join(path);
         let before = fs::read_to_string(&path)?;
         fs::write(&path, text)?;
-        let mut judged = self.run("dev", name)?;
-        if judged.0 == Verdict::NotRefused {
-            judged = self.run("check", name)?;
-        }
+        let judged = self.check(name);
         fs::write(&path, before)?;
-        Ok(judged)
+        judged
     }
 
-    /// The verdict on a crate as it stands.
-    fn run(&self, command: &str, name: &str) -> io::Result<(Verdict, String)> {
+    /// The verdict on a crate as it stands. `rt check` proves again what a change touches.
+    fn check(&self, name: &str) -> io::Result<(Verdict, String)> {
+        let folder = self.root.join("crates").join(name);
         let mut rt = Command::new("rt");
-        let output = rt.args([command, name]).current_dir(&self.root).output()?;
+        let output = rt.arg("check").current_dir(folder).output()?;
         let words = [output.stdout, output.stderr].concat();
         let root = format!("{}/", self.root.display());
         let words = String::from_utf8_lossy(&words).replace(&root, "");
@@ -82,12 +76,15 @@ impl Scratch {
     }
 }
 
-/// The verdict of an exit status of `rt` and of what it printed.
+/// The verdict of an exit status of `rt` and of what it printed: of a crate that is no program it has
+/// no line on the logic, and where it gives no verdict no status that is looked for here.
 fn verdict(status: Option<i32>, words: &str) -> Verdict {
+    let says = |start: &str| words.lines().any(|line| line.starts_with(start));
     match status {
-        Some(0) => Verdict::NotRefused,
-        Some(1) if words.contains("\nlogic=") => Verdict::Refused(first_place(words).to_string()),
-        Some(1) => Verdict::NoProgram,
+        Some(0) if says("logic=proved") => Verdict::NotRefused,
+        Some(1) if says("rt: the library ") => Verdict::NoVerdict,
+        Some(1) if says("logic=not-proved") => Verdict::Refused(first_place(words).to_string()),
+        Some(1) if !says("logic=") => Verdict::NoProgram,
         _ => Verdict::NoVerdict,
     }
 }
@@ -102,6 +99,49 @@ fn first_place(words: &str) -> &str {
     places
         .find(|place| !place.contains(' '))
         .unwrap_or("no place")
+}
+
+/// What the prover makes in the folder of a crate.
+const MADE: &str = "out";
+
+/// Empties the folders of crates but for what the prover made there.
+fn remove_all_but_made(crates: &Path) -> io::Result<()> {
+    for folder in fs::read_dir(crates)? {
+        for entry in fs::read_dir(folder?.path())? {
+            let entry = entry?;
+            if entry.file_name() == MADE {
+                continue;
+            }
+            if entry.file_type()?.is_dir() {
+                fs::remove_dir_all(entry.path())?;
+            } else {
+                fs::remove_file(entry.path())?;
+            }
+        }
+    }
+    Ok(())
+}
+
+/// Copies crates but for what the prover made there.
+fn copy_crates(from: &Path, to: &Path) -> io::Result<()> {
+    for folder in fs::read_dir(from)? {
+        let folder = folder?;
+        let to = to.join(folder.file_name());
+        fs::create_dir_all(&to)?;
+        for entry in fs::read_dir(folder.path())? {
+            let entry = entry?;
+            let to = to.join(entry.file_name());
+            if entry.file_name() == MADE {
+                continue;
+            }
+            if entry.file_type()?.is_dir() {
+                copy_folder(&entry.path(), &to)?;
+            } else {
+                fs::copy(entry.path(), to)?;
+            }
+        }
+    }
+    Ok(())
 }
 
 fn copy_folder(from: &Path, to: &Path) -> io::Result<()> {
@@ -124,27 +164,35 @@ mod tests {
 
     #[test]
     fn the_first_place_is_named() {
-        let words = "rt: rules proved (2 s)\n\
-            note: crates/a/src/lib.rt:3:4: it is not proved that the sum fits\n\
-            crates/a/proofs/f/Proof.antt:5:6: error: `returns`: expected type\n\
+        let words = "rt: chose --jobs 2 for a\n\
+            note: src/lib.rt:3:4: it is not proved that the sum fits\n\
+            note: a goal may be false even if its line does not say so: try it by hand\n\
+            proofs/f/Answers.antt:5:6: error: `returns`: expected type\n\
+            fn a::f: not proved\n\
             logic=not-proved\n";
-        let place = "crates/a/proofs/f/Proof.antt:5:6".to_string();
+        let place = "proofs/f/Answers.antt:5:6".to_string();
         assert_eq!(verdict(Some(1), words), Verdict::Refused(place));
         let words = words.replace("error", "help");
-        let place = "crates/a/src/lib.rt:3:4".to_string();
+        let place = "src/lib.rt:3:4".to_string();
         assert_eq!(verdict(Some(1), &words), Verdict::Refused(place));
     }
 
     #[test]
     fn what_the_compiler_refuses_is_no_program() {
-        let words = "crates/a/src/lib.rt:3:4: error[mismatched-types]: expected `u8`\n";
+        let words = "rt: chose --jobs 2 for a\n\
+            src/lib.rt:3:4: error[mismatched-types]: expected `u8`\n";
         assert_eq!(verdict(Some(1), words), Verdict::NoProgram);
     }
 
     #[test]
     fn other_ends() {
-        assert_eq!(verdict(Some(0), "\nlogic=proved"), Verdict::NotRefused);
+        let proved = "fn a::f: proved\nlogic=proved functions=1 sum=0\n";
+        assert_eq!(verdict(Some(0), proved), Verdict::NotRefused);
+        assert_eq!(verdict(Some(0), ""), Verdict::NoVerdict);
+        assert_eq!(verdict(Some(1), proved), Verdict::NoVerdict);
         assert_eq!(verdict(Some(3), "\nrattle: no verdict"), Verdict::NoVerdict);
         assert_eq!(verdict(None, ""), Verdict::NoVerdict);
+        let below = "logic=not-proved\nrt: the library b did not build, so nothing above it\n";
+        assert_eq!(verdict(Some(1), below), Verdict::NoVerdict);
     }
 }

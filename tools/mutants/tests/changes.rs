@@ -11,7 +11,8 @@ const RULES: &str = "\
 const DECLARED: &str = "\
     struct Pair { first: u64, second: u64, third: u8 }
     enum Found { At(usize, u64), Nothing }
-    fn count() -> u8 ensures { λ r. ⌜ r < 1 ⌝ } { x() }
+    fn count() -> u8 ensures { result < 1 } { x() }
+    fn few() -> u8 requires { 0 < 1 } ensures few { result < 1 } ensures { 0 < 1 } { x() }
 ";
 
 const PARAMS: &str = "v: u64, n: usize, c: u8, list: &[u8], p: Pair, w: u64, found: Found";
@@ -82,6 +83,7 @@ fn locals_have_the_type_of_their_value() {
     check("let l = list[n];\ny(l)", &["y(c)"]);
     check("let l = list.len();\ny(l)", &["y(n)"]);
     check("let l = v::count();\ny(l)", &["y(c)"]);
+    check("let l = few();\ny(l)", &["y(c)"]);
     check("let l = x(v) as usize + 1;\ny(l)", &["y(n)"]);
     check("let l = 3 + (n - 1);\ny(l)", &["y(n)"]);
     check("let l = LEAST;\ny(l)", &["y(v)"]);
@@ -138,15 +140,18 @@ fn operands_the_other_way_round() {
 fn only_code_is_changed() {
     let source = "\
         // 1 < 2
-        ghost use Library.{_<_, LEAST};
+        ghost use Library.{◌<◌, LEAST};
         use rules::LEAST;
         #[align(8)]
+        #[derive(Drop)]
         struct Buffer { bytes: [u8; 4] }
         enum Byte { At([u8; 4]) }
+        #[unsafe(no_mangle)]
         pub extern \"C\" fn f(a: [u8; 4], b: [u8; 4]) -> [u8; 4]
-            requires { ⌜ a < 1 ⌝ }
-            ensures { λ r. ⌜ LEAST ≤ 1 ⌝ }
-            ensures { λ r. ⌜ { a } ⌝ }
+            requires { a.now < 1 }
+            requires room { a.now < 1 }
+            ensures { LEAST ≤ 1 }
+            ensures kept { { a } ≡ result }
         {
             let x: [u8; 4] = y(b\"1 < \\\" 2\", p.0); // 1 < 2
         }
