@@ -1,5 +1,5 @@
-// Every export is called once, by a function that ensures the export's promise and is proved from the export's contract alone: an
-// `ensures` that says less than the promise of which uniqueness and demands speak is refused here.
+// Every function of `planner` is called once, by one that ensures its promise and is proved from its contract alone: an `ensures` that
+// says less than the promise of which uniqueness and demands speak is refused here.
 
 #![tactic(auto)]
 

@@ -1,15 +1,15 @@
 -- Opening a sheet, and what is printed of it (document 01, "The sheet and the printed table").
 --     picture_count, sizes_offset, ticks_offset, rate_count, rates_offset, clock_scale, clock_units    the seven words of the header
---     sheet_recording  the recording in a sheet
---     sheet_rates      and its rates
---     misplaced       an offset or the length is not as the counts have it
---     header_faults    what the header and the length may have wrong, in the order of document 01
---     sheet_faults     and what the whole sheet may
---     Head            what an opened sheet says beside its lists: both counts and the clock
---     Opened, open_outcome      the answer to opening a sheet, and the three lent lists afterwards
---     least_text       the table of a recording's least figures as text
---     sheet_text       the whole output for a sheet
---     Output, output_of         what is said of that output: where it ends, and how the sheet was judged
+--     sheet_recording   the recording in a sheet
+--     sheet_rates       and its rates
+--     misplaced         an offset or the length is not as the counts have it
+--     header_faults     what the header and the length may have wrong, in the order of document 01
+--     sheet_faults      and what the whole sheet may
+--     Head              what an opened sheet says beside its lists: both counts and the clock
+--     Opened, open_outcome    the answer to opening a sheet, and the three lent lists afterwards
+--     least_text        the table of a recording's least figures as text
+--     sheet_text        the whole output for a sheet
+--     Output, output_of    what is said of that output: where it ends, and how the sheet was judged
 --     Printed, print_outcome    the answer to printing it to a lent list of bytes, and that list afterwards
 -- Laws: proofs/SheetLaws.antt. Assumes nothing.
 use Rattle.std.specs.Prelude.{ℕ, ◌+◌, ◌*◌, Bool, not, ◌||◌, List, [], ◌∷◌, ◌++◌, map, ltb, eqb, length}

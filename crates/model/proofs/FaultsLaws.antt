@@ -1,9 +1,9 @@
 -- What the checks of an operation say together. Definitions: specs/Faults.antt.
---     entry_before-more   one entry on, the entry before is this one
---     bad_tick-after      after the first picture a tick is judged by the one before it and the first
+--     entry_before-more       one entry on, the entry before is this one
+--     bad_tick-after          after the first picture a tick is judged by the one before it and the first
 --     recording_faults-ascending, verdict_faults-ascending, schedule_faults-ascending, least_faults-ascending,
 --     table_faults-ascending, lookup_faults-ascending, seconds_faults-ascending
---                              the checks of an operation stand in the order of their numbers, so that the lowest is the first
+--                             the checks of an operation stand in the order of their numbers, so that the lowest is the first
 --     judge-first             so a recording's refusal is the first
 --     faults-after            and after those of a recording further checks are judged where the recording passes
 --     verdict_faults-first    so a rate and a bucket are judged after the recording

@@ -1,14 +1,14 @@
 -- Looking up a rate in a table (document 01, under that heading).
 --     Axis         the rates of a table's rows, with the clock and span that a lookup takes: what a column is looked up by
 --     Table        rows of rate, buffer and fullness, with that clock and span
---     axis_of       a table's axis
---     rows_up_to     the number of the last row, counted from 1, whose rate is at most r; 0 for none
+--     axis_of      a table's axis
+--     rows_up_to   the number of the last row, counted from 1, whose rate is at most r; 0 for none
 --     Spot         where a rate lies: below the first row, on a row, between a row and the next, above the last
---     spot_of       the spot of a rate
+--     spot_of      the spot of a rate
 --     growth       by how much both figures grow below the first row
 --     blend        between two rows: interpolated straight and rounded up
---     figure_at     the figure X at a rate, for X = B and X = F
---     lookup_of     both figures, as a bucket
+--     figure_at    the figure X at a rate, for X = B and X = F
+--     lookup_of    both figures, as a bucket
 -- In a table that is not refused every difference of rates below is of a higher and a lower one, so that no subtraction stops at 0.
 -- Laws: proofs/LookupLaws.antt. Assumes nothing.
 use Rattle.std.specs.Prelude.{ℕ, zero, suc, ◌+◌, ◌-◌, ◌*◌, cond, List, leb, eqb, length, get_or}

@@ -1,11 +1,11 @@
 -- A panel reading (document 01, "Looking up a rate in a table"): a bucket at its rate as seconds, and the driver's limit.
 --     quotient          "one rounded division of two exactly held whole numbers", in IEEE 754 binary64
 --     Seconds           the wait F/R and the fill time B/R
---     seconds_of         the seconds of a bucket
---     bad_limit          the limit is not a finite number above 0
+--     seconds_of        the seconds of a bucket
+--     bad_limit         the limit is not a finite number above 0
 --     Reading           within, carrying the wait, or over, carrying wait and limit
---     reading_of         the reading of a bucket; "wait equal to limit is within"
---     seconds_outcome    the seconds, or a refusal
+--     reading_of        the reading of a bucket; "wait equal to limit is within"
+--     seconds_outcome   the seconds, or a refusal
 --     panel_faults, panel_outcome    the reading, or a refusal
 -- Laws: proofs/PanelLaws.antt. Assumes nothing.
 use Rattle.std.specs.Prelude.{ℕ, Bool, false, not, cond, ◌&&◌, List, [], ◌∷◌, ◌++◌, pos, Float}

@@ -1,9 +1,9 @@
 -- Reading goes on after a field as its step says. Definitions: coding/specs/Fields.antt, specs/Steps.antt.
---     on_step                               what follows a step: reading goes on, or ends at a fault where the field stands
---     read_on-step, read_fields-step         a field read is its step, and what follows it
---     took-most                            a value that was taken is in its field's range
---     read_fields-first                     what reading some fields adds stands behind the first value
---     step-short, step-fault, step-took    what follows a step, by its kind
+--     on_step                             what follows a step: reading goes on, or ends at a fault where the field stands
+--     read_on-step, read_fields-step      a field read is its step, and what follows it
+--     took-most                           a value that was taken is in its field's range
+--     read_fields-first                   what reading some fields adds stands behind the first value
+--     step-short, step-fault, step-took   what follows a step, by its kind
 -- Assumes nothing.
 use Prim.Native.Nat.{ℕ, zero, suc, ◌≤◌}
 use native.Mathlib.Omega.{arith}

@@ -13,7 +13,7 @@
 --     scale_width          bits of bit_rate_scale and cpb_size_scale     "HRD parameter bits"
 --     length_width         bits of each of the four lengths              "HRD parameter bits"
 --     rate_shift           rate = (value + 1) x 2^(rate_shift + scale)   "HRD parameter bits"
---     size_shift           size = (value + 1) x 2^(size_shift + scale)    "HRD parameter bits"
+--     size_shift           size = (value + 1) x 2^(size_shift + scale)   "HRD parameter bits"
 --     bytes_max            bytes of a lent byte list that count          "HRD parameter bits"
 --     header_bytes         bytes of a sheet's header                     "The sheet and the printed table"
 --     sheet_bytes_max      bytes of the largest sheet                    "The sheet and the printed table"

@@ -1,6 +1,6 @@
 -- What this crate's answers say, in document 01's numbers, places and values.
---     answer_of     a verdict
---     scheduled    a verdict, with the two lists afterwards
+--     answer_of   a verdict
+--     scheduled   a verdict, with the two lists afterwards
 -- Assumes nothing.
 use Rattle.std.specs.Prelude.{ℕ, List}
 use Rattle.model.specs.Arrival as arrival
