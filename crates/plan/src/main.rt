@@ -7,6 +7,7 @@ use print::Printed;
 use rules::{SHEET_BYTES_MAX, TEXT_MAX};
 
 const STDIN: i32 = 0;
+
 const STDOUT: i32 = 1;
 
 fn main() {
