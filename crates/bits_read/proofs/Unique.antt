@@ -2,19 +2,20 @@
 --     read_of-one    no two answers of reading a code say the same
 -- Assumes nothing.
 use Prim.Native.Nat.{ℕ}
-use native.Mathlib.Omega.{arith}
-use mathlib.Core.Path.{◌≡◌}
+use mathlib.Core.Path.{◌≡◌, ap₂}
+use Rattle.std.specs.Prelude.{Result, Ok, Err}
 use Rattle.bits_read.specs.Outcome.{read_of}
-use Rattle.bits_read.specs.declared.Coded.{Coded}
-use Rattle.bits_read.specs.declared.Coded.TheVariants as coded
+use Rattle.bits_read.specs.declared.Code.{Code}
+use Rattle.bits_read.specs.declared.CodeFault.{CodeFault}
+use Rattle.bits_read.specs.declared.CodeFault.TheVariants.{Ended, Broken}
 
-pub read_of-one : (v w : Coded) → read_of v ≡ read_of w → v ≡ w
-read_of-one (coded.Value x p) (coded.Value x' p') e = cc
-read_of-one (coded.Value x p) (coded.Ended q') e = let z : ◌≡◌ {A = ℕ} 0 1 = cc in absurd (omega arith)
-read_of-one (coded.Value x p) (coded.Broken q') e = let z : ◌≡◌ {A = ℕ} 0 1 = cc in absurd (omega arith)
-read_of-one (coded.Ended q) (coded.Value x' p') e = let z : ◌≡◌ {A = ℕ} 0 1 = cc in absurd (omega arith)
-read_of-one (coded.Ended q) (coded.Ended q') e = cc
-read_of-one (coded.Ended q) (coded.Broken q') e = let z : ◌≡◌ {A = ℕ} 0 1 = cc in absurd (omega arith)
-read_of-one (coded.Broken q) (coded.Value x' p') e = let z : ◌≡◌ {A = ℕ} 0 1 = cc in absurd (omega arith)
-read_of-one (coded.Broken q) (coded.Ended q') e = let z : ◌≡◌ {A = ℕ} 0 1 = cc in absurd (omega arith)
-read_of-one (coded.Broken q) (coded.Broken q') e = cc
+pub read_of-one : (v w : Result Code CodeFault) → read_of v ≡ read_of w → v ≡ w
+read_of-one (Ok c) (Ok c') e = ap₂ (λ (x : ℕ) (p : ℕ). Ok (record { value = x; next = p })) (cc) (cc)
+read_of-one (Ok c) (Err (Ended q')) e = cc
+read_of-one (Ok c) (Err (Broken q')) e = cc
+read_of-one (Err (Ended q)) (Ok c') e = cc
+read_of-one (Err (Ended q)) (Err (Ended q')) e = cc
+read_of-one (Err (Ended q)) (Err (Broken q')) e = cc
+read_of-one (Err (Broken q)) (Ok c') e = cc
+read_of-one (Err (Broken q)) (Err (Ended q')) e = cc
+read_of-one (Err (Broken q)) (Err (Broken q')) e = cc

@@ -7,15 +7,13 @@ ghost use Rattle.rules.specs.Limits.{value_max, zeros_max};
 ghost use Rattle.rules.specs.Width.{word_bits};
 ghost use Rattle.coding.specs.Codes.{ue, code_bits, unsigned_bits, zeros_of, put_bit, put_bits};
 
-use rules::ZEROS_MAX;
-
 // Stores the bit b at position p.
 fn put_bit(bytes: &mut [u8], p: u64, b: u64)
     requires { (p < 8 * length bytes.old) × (b < 2) }
     ensures { bytes.new ≡ put_bit bytes.old p b }
 {
     let i = (p / 8) as usize;
-    let byte = numbers::wide(bytes[i]);
+    let byte = u64::from(bytes[i]);
     let unit: u64 = 1 << (7 - p % 8);
     bytes[i] = (byte + b * unit - byte / unit % 2 * unit) as u8;
 }
@@ -25,10 +23,8 @@ pub fn write_u(bytes: &mut [u8], p: u64, w: u64, v: u64)
     requires { (w ≤ word_bits) × (p + w ≤ 8 * length bytes.old) × (p + w ≤ 2 ^ 32) }
     ensures { bytes.new ≡ put_bits bytes.old p (unsigned_bits w v) }
 {
-    let mut i = 0;
-    while i < w {
+    for i in 0..w {
         put_bit(bytes, p + i, (v >> (w - 1 - i)) % 2);
-        i += 1;
     }
 }
 
@@ -37,11 +33,7 @@ fn zeros_of(v: u64) -> u64
     requires { v ≤ value_max }
     ensures { (result ≡ zeros_of v zeros_max) × (result < zeros_max) }
 {
-    let mut z = ZEROS_MAX - 1;
-    while (v + 1) >> z == 0 {
-        z -= 1;
-    }
-    z
+    u64::from((v + 1).ilog2())
 }
 
 // How many bits the code ue(v) has.

@@ -1,10 +1,47 @@
 -- What this crate's answers say, in document 01's numbers and places.
---     judgement_of    a judgement
+--     number_of, place_of    of a refusal
+--     answer_by              a Result: what is given, read by f; or the refusal
+--     judgement_of           whether it is a refusal, and which
 -- Assumes nothing.
+use Rattle.std.specs.Prelude.{ℕ, Result, Ok, Err}
+use Rattle.rules.specs.Refusals as refusal
 use Rattle.terms.specs.Answers as answers
-use Rattle.judgement.specs.declared.Judgement.{Judgement}
-use Rattle.judgement.specs.declared.Judgement.TheVariants.{Passed, Refused}
+use Rattle.judgement.specs.declared.Refusal.{Refusal}
+use Rattle.judgement.specs.declared.Refusal.TheVariants.{Pictures, Lengths, Clock, Size, Tick, Rate, Bucket, Room, Short, Field, Constant, Sheet, Limit}
 
-abbrev pub judgement_of : Judgement → answers.Judgement
-judgement_of Passed = answers.passed
-judgement_of (Refused number place) = answers.refused number place
+abbrev pub number_of : Refusal → ℕ
+number_of Pictures = refusal.pictures
+number_of Lengths = refusal.lengths
+number_of Clock = refusal.clock
+number_of (Size i) = refusal.size
+number_of (Tick i) = refusal.tick
+number_of (Rate i) = refusal.rate
+number_of (Bucket i) = refusal.bucket
+number_of Room = refusal.room
+number_of (Short i) = refusal.short
+number_of (Field i) = refusal.field
+number_of (Constant i) = refusal.constant
+number_of Sheet = refusal.sheet
+number_of Limit = refusal.limit
+
+abbrev pub place_of : Refusal → ℕ
+place_of Pictures = 0
+place_of Lengths = 0
+place_of Clock = 0
+place_of (Size i) = i
+place_of (Tick i) = i
+place_of (Rate i) = i
+place_of (Bucket i) = i
+place_of Room = 0
+place_of (Short i) = i
+place_of (Field i) = i
+place_of (Constant i) = i
+place_of Sheet = 0
+place_of Limit = 0
+
+abbrev pub answer_by : {A B : Type 0} → (A → B) → Result A Refusal → answers.Answer B
+answer_by f (Ok x) = answers.given (f x)
+answer_by f (Err r) = answers.refused (number_of r) (place_of r)
+
+abbrev pub judgement_of : {A : Type 0} → Result A Refusal → answers.Judgement
+judgement_of r = answer_by (λ _. tt) r

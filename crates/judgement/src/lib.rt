@@ -1,46 +1,94 @@
-// What judging answers, and how several judgements are taken together: the faults of an operation are a list in its definition and one
-// expression in its code. Serves document 01, "When the planner says no".
+// What judging answers: nothing, or a refusal, and how several judgements are taken together: the faults of an operation are a list in its
+// definition and one expression in its code. Serves document 01, "When the planner says no".
 
 #![tactic(auto)]
 
 ghost use Rattle.std.specs.Prelude.{◌≡◌, [], ◌∷◌, ◌+◌, ltb};
 ghost use Rattle.rules.specs.Refusals as refusal;
 ghost use Rattle.terms.specs.Answers.{refuse_if, lower as lower_of, lowest};
-ghost use Rattle.judgement.specs.Outcome.{judgement_of};
+ghost use Rattle.judgement.specs.Outcome.{number_of, place_of, judgement_of};
 
-use rules::ROOM;
+use rules::{
+    BUCKET, CLOCK, CONSTANT, FIELD, LENGTHS, LIMIT, PICTURES, RATE, ROOM, SHEET, SHORT, SIZE, TICK,
+};
 
-// Nothing is wrong; or a refusal, its number and its place.
-#[derive(Drop)]
-pub enum Judgement {
-    Passed,
-    Refused(u8, usize),
+// What is wrong, by document 01's names, and at which place; a refusal that names none is at place 0.
+#[derive(Clone, Copy, Debug, PartialEq, Eq)]
+pub enum Refusal {
+    Pictures,
+    Lengths,
+    Clock,
+    Size(usize),
+    Tick(usize),
+    Rate(usize),
+    Bucket(usize),
+    Room,
+    Short(usize),
+    Field(usize),
+    Constant(usize),
+    Sheet,
+    Limit,
+}
+
+// Nothing is wrong; or a refusal.
+pub type Judgement = Result<(), Refusal>;
+
+impl Refusal {
+    // The refusal's number in document 01.
+    pub fn number(self) -> u8
+        ensures { result ≡ number_of self }
+    {
+        match self {
+            Refusal::Pictures => PICTURES,
+            Refusal::Lengths => LENGTHS,
+            Refusal::Clock => CLOCK,
+            Refusal::Size(_) => SIZE,
+            Refusal::Tick(_) => TICK,
+            Refusal::Rate(_) => RATE,
+            Refusal::Bucket(_) => BUCKET,
+            Refusal::Room => ROOM,
+            Refusal::Short(_) => SHORT,
+            Refusal::Field(_) => FIELD,
+            Refusal::Constant(_) => CONSTANT,
+            Refusal::Sheet => SHEET,
+            Refusal::Limit => LIMIT,
+        }
+    }
+
+    // The refusal's place.
+    pub fn place(self) -> usize
+        ensures { result ≡ place_of self }
+    {
+        match self {
+            Refusal::Size(place)
+            | Refusal::Tick(place)
+            | Refusal::Rate(place)
+            | Refusal::Bucket(place)
+            | Refusal::Short(place)
+            | Refusal::Field(place)
+            | Refusal::Constant(place) => place,
+            _ => 0,
+        }
+    }
 }
 
 // The refusal, if the test is true.
-pub fn refuse_if(bad: bool, number: u8, place: usize) -> Judgement
-    ensures { judgement_of result ≡ refuse_if bad number place }
+#[tactic(auto, unfolding(terms::specs::Answers::refuse_if))]
+pub fn refuse_if(bad: bool, refusal: Refusal) -> Judgement
+    ensures { judgement_of result ≡ refuse_if bad (number_of refusal) (place_of refusal) }
 {
-    if bad {
-        return Judgement::Refused(number, place);
-    }
-    Judgement::Passed
+    if bad { Err(refusal) } else { Ok(()) }
 }
 
 // Of two judgements the refusal with the lower number; of equal numbers the first.
 pub fn lower(a: Judgement, b: Judgement) -> Judgement
     ensures { judgement_of result ≡ lower_of (judgement_of a) (judgement_of b) }
 {
-    let Judgement::Refused(m, _) = a else {
-        return b;
-    };
-    let Judgement::Refused(n, _) = b else {
-        return a;
-    };
-    if n < m {
-        return b;
+    match (a, b) {
+        (Ok(()), judged) => judged,
+        (Err(first), Err(second)) if second.number() < first.number() => Err(second),
+        (Err(first), _) => Err(first),
     }
-    a
 }
 
 // Judges the room of a lent list of `len` entries for `count` of them from entry `at` on: refusal 8.
@@ -48,9 +96,9 @@ pub fn judge_room(len: usize, at: usize, count: usize) -> Judgement
     ensures { judgement_of result ≡ refuse_if (ltb len (at + count)) refusal.room 0 }
 {
     if len < at {
-        return Judgement::Refused(ROOM, 0);
+        return Err(Refusal::Room);
     }
-    refuse_if(len - at < count, ROOM, 0)
+    refuse_if(len - at < count, Refusal::Room)
 }
 
 // The same of two lists that are lent alike.

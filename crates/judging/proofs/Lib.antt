@@ -1,2 +1,2 @@
-mod JudgeLaws
+mod Places
 pub mod Unique

@@ -26,4 +26,5 @@ pub returns-then-len-at : goal.returns-then-len-at
 returns-then-len-at c = sym (test-true refusal.room 0 (past-end _ _ _ c.if-len-at.true))
 
 pub returns : goal.returns
-returns c = c.refuse_if.ensures ∙ ap (λ bad. refuse_if bad refusal.room 0) (left-over _ _ _ c.if-len-at.false)
+returns c =
+    c.refuse_if.ensures ∙ ap (λ bad. refuse_if bad refusal.room 0) (left-over _ _ _ c.if-len-at.false)

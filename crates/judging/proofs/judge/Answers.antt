@@ -1,43 +1,60 @@
--- `judging::judge` meets its contract: each return is the outcome at the check that led there (JudgeLaws).
+-- `judging::judge` meets its contract: each step is the check of its place, and the first that refuses is the outcome.
 -- Assumes nothing.
-use mathlib.Core.Path.{sym, ◌∙◌}
-use Rattle.model.specs.Recording.{recording}
-use Rattle.judging.proofs.JudgeLaws.{judge-pictures, judge-lengths, judge-clock, judge-size, judge-tick, judge-passed}
+use mathlib.Core.Path.{sym, ap, ◌∙◌}
+use borrow.Author.Tests.{not-false, eqb-true}
+use Rattle.rules.specs.Refusals as refusal
+use Rattle.terms.specs.Answers.{first_fault}
+use Rattle.terms.proofs.AnswersLaws.{refuse_if-passed}
+use Rattle.model.specs.Recording.{Recording}
+use Rattle.model.specs.Faults.{bad_tick}
+use Rattle.model.proofs.FaultsLaws.{judge-first}
+use Rattle.judgement.proofs.Steps.{stop, pass, passes, last}
+use Rattle.recording.specs.Given.{recording_of}
 use Rattle.judging.proofs.judge.Goals as goal
 
-pub returns-then-is_outside : goal.returns-then-is_outside
-returns-then-is_outside c =
-    sym (judge-pictures (recording c.args.sizes.now c.args.ticks.now c.args.ts c.args.nu) (sym c.is_outside.ensures ∙ c.if-is_outside.true))
+pub returns-in_err-refuse_if : goal.returns-in_err-refuse_if
+returns-in_err-refuse_if c =
+    let k : Recording = recording_of c.args.recording in
+    stop _ _ _ _ (rw c.is_outside.ensures at c.refuse_if.ensures) c.in_err-refuse_if.was c.from_residual.ensures.1 ∙ sym (judge-first k)
 
-pub returns-then-ticks-n : goal.returns-then-ticks-n
-returns-then-ticks-n c =
-    let k = recording c.args.sizes.now c.args.ticks.now c.args.ts c.args.nu in
-    sym (judge-lengths k (sym c.is_outside.ensures ∙ c.if-is_outside.false) c.if-ticks-n.true)
+pub returns-in_err-refuse_if-2 : goal.returns-in_err-refuse_if-2
+returns-in_err-refuse_if-2 c =
+    let k : Recording = recording_of c.args.recording in
+    stop _ _ _ _ c.refuse_if-2.ensures c.in_err-refuse_if-2.was c.from_residual-in_err-refuse_if-2.ensures.1
+    ∙ sym (judge-first k ∙ pass _ _ _ (rw c.is_outside.ensures at c.refuse_if.ensures) c.in_ok-refuse_if.was)
 
-pub returns-then-is_bad_clock : goal.returns-then-is_bad_clock
-returns-then-is_bad_clock c =
-    let k = recording c.args.sizes.now c.args.ticks.now c.args.ts c.args.nu in
-    sym (judge-clock k (sym c.is_outside.ensures ∙ c.if-is_outside.false) c.if-ticks-n.false (sym c.is_bad_clock.ensures ∙ c.if-is_bad_clock.true))
+pub returns-in_err-refuse_if-3 : goal.returns-in_err-refuse_if-3
+returns-in_err-refuse_if-3 c =
+    let k : Recording = recording_of c.args.recording in
+    stop _ _ _ _ (rw c.is_bad_clock.ensures at c.refuse_if-3.ensures) c.in_err-refuse_if-3.was c.from_residual-in_err-refuse_if-3.ensures.1
+    ∙ sym (
+    judge-first k
+    ∙ pass _ _ _ (rw c.is_outside.ensures at c.refuse_if.ensures) c.in_ok-refuse_if.was
+    ∙ pass _ _ _ c.refuse_if-2.ensures c.in_ok-refuse_if-2.was
+    )
 
-pub returns-then-size-n : goal.returns-then-size-n
-returns-then-size-n c =
-    let k = recording c.args.sizes.now c.args.ticks.now c.args.ts c.args.nu in
-    let counts = sym c.is_outside.ensures ∙ c.if-is_outside.false in
-    let ticks-on = sym c.is_bad_clock.ensures ∙ c.if-is_bad_clock.false in
-    sym (judge-size k counts c.if-ticks-n.false ticks-on _ c.first_bad_size-size.ensures c.if-size-n.true)
-
-pub returns-then-tick-n : goal.returns-then-tick-n
-returns-then-tick-n c =
-    let k = recording c.args.sizes.now c.args.ticks.now c.args.ts c.args.nu in
-    let counts = sym c.is_outside.ensures ∙ c.if-is_outside.false in
-    let ticks-on = sym c.is_bad_clock.ensures ∙ c.if-is_bad_clock.false in
-    let found = rw c.if-ticks-n.false at c.first_bad_tick-tick.ensures in
-    sym (judge-tick k counts c.if-ticks-n.false ticks-on _ c.first_bad_size-size.ensures c.if-size-n.false _ found c.if-tick-n.true)
+pub returns-in_err-judge_sizes : goal.returns-in_err-judge_sizes
+returns-in_err-judge_sizes c =
+    let k : Recording = recording_of c.args.recording in
+    stop _ _ _ _ c.judge_sizes.ensures c.in_err-judge_sizes.was c.from_residual-in_err-judge_sizes.ensures.1
+    ∙ sym (
+    judge-first k
+    ∙ pass _ _ _ (rw c.is_outside.ensures at c.refuse_if.ensures) c.in_ok-refuse_if.was
+    ∙ pass _ _ _ c.refuse_if-2.ensures c.in_ok-refuse_if-2.was
+    ∙ pass _ _ _ (rw c.is_bad_clock.ensures at c.refuse_if-3.ensures) c.in_ok-refuse_if-3.was
+    )
 
 pub returns : goal.returns
 returns c =
-    let k = recording c.args.sizes.now c.args.ticks.now c.args.ts c.args.nu in
-    let counts = sym c.is_outside.ensures ∙ c.if-is_outside.false in
-    let ticks-on = sym c.is_bad_clock.ensures ∙ c.if-is_bad_clock.false in
-    let found = rw c.if-ticks-n.false at c.first_bad_tick-tick.ensures in
-    sym (judge-passed k counts c.if-ticks-n.false ticks-on _ c.first_bad_size-size.ensures c.if-size-n.false _ found c.if-tick-n.false)
+    let k : Recording = recording_of c.args.recording in
+    let paired = eqb-true _ _ (not-false _ ((refuse_if-passed _ refusal.lengths 0).0 (passes _ _ c.refuse_if-2.ensures c.in_ok-refuse_if-2.was))) in
+    c.judge_ticks.ensures
+    ∙ ap (first_fault refusal.tick (bad_tick k.ticks)) paired
+    ∙ sym (
+    judge-first k
+    ∙ pass _ _ _ (rw c.is_outside.ensures at c.refuse_if.ensures) c.in_ok-refuse_if.was
+    ∙ pass _ _ _ c.refuse_if-2.ensures c.in_ok-refuse_if-2.was
+    ∙ pass _ _ _ (rw c.is_bad_clock.ensures at c.refuse_if-3.ensures) c.in_ok-refuse_if-3.was
+    ∙ pass _ _ _ c.judge_sizes.ensures c.in_ok-judge_sizes.was
+    ∙ last _
+    )

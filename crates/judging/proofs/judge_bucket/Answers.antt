@@ -1,13 +1,22 @@
--- `judging::judge_bucket` meets its contract: the lowest of two judgements is the lower.
+-- `judging::judge_bucket` meets its contract: the rate is judged first, then the bucket.
 -- Assumes nothing.
-use mathlib.Core.Path.{sym, ap, ap₂, ◌∙◌}
-use Rattle.rules.specs.Refusals as refusal
-use Rattle.terms.specs.Answers.{refuse_if, lower}
-use Rattle.terms.proofs.AnswersLaws.{lowest-two}
+use mathlib.Core.Path.{sym, ◌∙◌}
+use Rattle.terms.proofs.AnswersLaws.{none, lowest-first}
+use Rattle.model.proofs.FaultsLaws.{seconds_faults-ascending}
+use Rattle.judgement.proofs.Steps.{stop, pass, last}
+use Rattle.recording.specs.Given.{bucket_of}
 use Rattle.judging.proofs.judge_bucket.Goals as goal
+
+pub returns-in_err-judge_rate : goal.returns-in_err-judge_rate
+returns-in_err-judge_rate c =
+    stop _ _ _ _ c.judge_rate.ensures c.in_err-judge_rate.was c.from_residual.ensures.1
+    ∙ sym (lowest-first (seconds_faults-ascending (bucket_of c.args.bucket) none))
 
 pub returns : goal.returns
 returns c =
-    c.lower.ensures
-    ∙ ap₂ lower c.judge_rate.ensures (c.refuse_if.ensures ∙ ap (λ bad. refuse_if bad refusal.bucket 0) c.is_bad_bucket.ensures)
-    ∙ sym (lowest-two _ _)
+    rw c.is_bad_bucket.ensures at c.refuse_if.ensures
+    ∙ sym (
+    lowest-first (seconds_faults-ascending (bucket_of c.args.bucket) none)
+    ∙ pass _ _ _ c.judge_rate.ensures c.in_ok-judge_rate.was
+    ∙ last _
+    )

@@ -1,0 +1,40 @@
+-- Steps that may refuse, each taken by a `?`: what is returned where one refuses, and what is left to judge where it passes.
+--     stopped         what a `?` returns is the refusal that it met
+--     refuses         then the step's judgement is that refusal
+--     stop            then what is returned says what the first of the judgements left says
+--     pass            a step that passes leaves the judgements after it
+--     passes          and of a step that passes it passes
+--     last            the last judgement left is the outcome
+-- Assumes nothing.
+use mathlib.Core.Path.{◌≡◌, refl, sym, ap, ◌∙◌}
+use mathlib.Core.List.{List, [], ◌∷◌}
+use Rattle.std.specs.Prelude.{Result, Ok, Err}
+use Rattle.std.specs.Result.{IsErrAnd}
+use Rattle.terms.specs.Answers.{Judgement, given, refused, passed, first}
+use Rattle.terms.proofs.AnswersLaws.{skip, here}
+use Rattle.judgement.specs.Outcome.{number_of, place_of, judgement_of}
+use Rattle.judgement.specs.declared.Refusal.{Refusal}
+
+pub stopped : {A : Type 0} (out : Result A Refusal) (e : Refusal) → IsErrAnd out (λ y. y ≡ e) → out ≡ Err e
+stopped (Err y) e left = ap Err left
+stopped (Ok x) e left = absurd left
+
+pub refuses : {A : Type 0} (r : Result A Refusal) (e : Refusal) {j : Judgement} → judgement_of r ≡ j → r ≡ Err e
+    → j ≡ refused (number_of e) (place_of e)
+refuses r e says was = sym says ∙ ap judgement_of was
+
+pub passes : {A : Type 0} (r : Result A Refusal) (x : A) {j : Judgement} → judgement_of r ≡ j → r ≡ Ok x → j ≡ passed
+passes r x says was = sym says ∙ ap judgement_of was
+
+pub stop : {A B : Type 0} (r : Result A Refusal) (out : Result B Refusal) (e : Refusal) {j : Judgement} (js : List Judgement)
+    → judgement_of r ≡ j → r ≡ Err e → IsErrAnd out (λ y. y ≡ e) → judgement_of out ≡ first (j ∷ js)
+stop r out e js says was left = ap judgement_of (stopped out e left) ∙ sym (here js (refuses r e says was))
+
+pub pass : {A : Type 0} (r : Result A Refusal) (x : A) {j : Judgement} (js : List Judgement) → judgement_of r ≡ j → r ≡ Ok x
+    → first (j ∷ js) ≡ first js
+pass r x js says was = skip js (passes r x says was)
+
+pub last : (j : Judgement) → first (j ∷ []) ≡ j
+unfolding first
+last (given tt) = refl
+last (refused n i) = refl
