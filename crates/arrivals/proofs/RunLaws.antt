@@ -2,20 +2,20 @@
 --     Running                                                                          the invariant: the line is free from the last end on, and what was seen is the verdict on the pictures passed
 --     Arrives                                                                          start, end and units late of a picture
 --     begun                                                                            the invariant before the first picture
---     lead-fit, hold-fit, fall-fit, rises, ticks-fit, removal-fit, bits-fit, end-fit   what the code computes fits the word
+--     rises, end-fit   what the code computes fits the word
 --     arrives                                                                          what `arrive` answers in a turn is the picture's arrival
 --     next                                                                             the invariant after a turn
 --     done                                                                             and after the last
 -- Assumes nothing.
 use Prim.Native.Nat.{ℕ, ◌+◌, ◌-◌, ◌*◌, ◌≤◌, ◌<◌, max, zero-le}
-use native.Mathlib.Nat.{le_trans, le_antisymm}
+use native.Mathlib.Nat.{le_antisymm}
 use native.Mathlib.Numerals.{add-one}
 use native.Mathlib.Omega.{arith}
 use mathlib.Core.Path.{◌≡◌, refl, sym, ap, ◌∙◌}
-use lib.Dec.{lit<}
+use Rattle.std.specs.Prelude.{Option, None}
 use Rattle.rules.specs.Limits.{size_max, span_max, rate_max, bucket_max}
 use Rattle.rules.specs.Width.{Word}
-use Rattle.rules.proofs.Fits.{product-fits, bits-fits, units-fits, tick_units-le, tick_units-fits, removal-fits, end-fits}
+use Rattle.rules.proofs.Fits.{bits-fits, tick_units-le, end-fits}
 use Rattle.model.specs.Recording.{Recording, Within, pictures, size, tick, distance}
 use Rattle.model.specs.Arrival.{Bucket, removal, earliest, arrival_start, arrival_end, late_by, then, verdict_below, verdict_of}
 use Rattle.model.specs.Least.{bits_before}
@@ -25,9 +25,9 @@ use Rattle.model.proofs.LeastLaws.{bits_before-le}
 use Rattle.model.proofs.ArrivalLaws.{free_at, arrival_start-free, arrival_start-le}
 use Rattle.model.proofs.FaultsLaws.{within-recorded}
 use Rattle.arrivals.specs.Seen.{seen_of}
-use Rattle.arrivals.specs.declared.Seen.{Seen}
+use Rattle.arrivals.specs.declared.Late.{Late}
 
-pub record Running (k : Recording) (u : Bucket) (free : ℕ) (seen : Seen) (i : ℕ) : Type 0 where
+pub record Running (k : Recording) (u : Bucket) (free : ℕ) (seen : Option Late) (i : ℕ) : Type 0 where
   pub within : Within k
   pub rate : u.rate ≤ rate_max
   pub buffer : u.buffer ≤ bucket_max
@@ -41,22 +41,13 @@ pub record Arrives (k : Recording) (u : Bucket) (i from to units : ℕ) : Type 0
   pub end : to ≡ arrival_end k u i
   pub late : units ≡ late_by k u i
 
-pub begun : (k : Recording) (u : Bucket) → Within k × (u.rate ≤ rate_max) × (u.buffer ≤ bucket_max) × (u.fullness ≤ u.buffer)
-    → Running k u 0 (record { picture = 0; late = 0 }) 0
+pub begun : (k : Recording) (u : Bucket) → Within k → (u.rate ≤ rate_max) × (u.buffer ≤ bucket_max) × (u.fullness ≤ u.buffer)
+    → Running k u 0 None 0
 unfolding verdict_below
-begun k u h =
-    record { within = h.0; rate = h.1; buffer = h.2; fullness = h.3; passed = zero-le; line = refl; verdict = refl }
+begun k u w h =
+    record { within = w; rate = h.0; buffer = h.1; fullness = h.2; passed = zero-le; line = refl; verdict = refl }
 
-module _ {k : Recording} {u : Bucket} {free : ℕ} {seen : Seen} {i : ℕ} (w : Running k u free seen i) where
-  pub lead-fit : Word (k.ts * u.fullness)
-  lead-fit = units-fits w.within.scale (le_trans w.fullness w.buffer)
-
-  pub hold-fit : Word (k.ts * u.buffer)
-  hold-fit = units-fits w.within.scale w.buffer
-
-  pub fall-fit : Word (u.rate * k.nu)
-  fall-fit = product-fits w.rate w.within.units (lit< tt)
-
+module _ {k : Recording} {u : Bucket} {free : ℕ} {seen : Option Late} {i : ℕ} (w : Running k u free seen i) where
   pub done : pictures k ≤ i → seen_of seen ≡ verdict_of k u
   done h = w.verdict ∙ ap (verdict_below k u) (le_antisymm w.passed h)
 
@@ -77,15 +68,6 @@ module _ {k : Recording} {u : Bucket} {free : ℕ} {seen : Seen} {i : ℕ} (w : 
     pub rises : tick k 0 ≤ tick k i
     rises = rising-le k.ticks w.within.rising 0 i zero-le h
 
-    pub ticks-fit : Word (u.rate * k.nu * distance k 0 i)
-    ticks-fit = (tick_units-fits w.rate w.within.units near).2
-
-    pub removal-fit : Word (removal k u i)
-    removal-fit = removal-fits w.within.scale (le_trans w.fullness w.buffer) w.rate w.within.units near
-
-    pub bits-fit : Word (k.ts * size k i)
-    bits-fit = units-fits w.within.scale (omega (arith, w.within.small i h))
-
     before-fits : bits_before k i ≤ bucket_max
     before-fits =
         (bits-fits {n = i} (omega (arith, w.within.few)) (bits_before-le k size_max i (λ j g. w.within.small j (omega arith)))).0
@@ -99,7 +81,7 @@ module _ {k : Recording} {u : Bucket} {free : ℕ} {seen : Seen} {i : ℕ} (w : 
           end-fits w.within.scale before-fits (tick_units-le w.rate w.within.units near) (w.within.small i h),
         ))
 
-    pub next : {from to units : ℕ} {after : Seen} → Arrives k u i from to units → seen_of after ≡ then (seen_of seen) i units
+    pub next : {from to units : ℕ} {after : Option Late} → Arrives k u i from to units → seen_of after ≡ then (seen_of seen) i units
         → Running k u to after (i + 1)
     unfolding verdict_below
     next a e =

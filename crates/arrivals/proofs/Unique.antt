@@ -1,19 +1,19 @@
 -- What the promise on a run settles of what it saw, beside the lists.
---     seen_of-one    the units, and the picture where one is late; where none is, a picture says nothing
+--     seen_of-one    the first late picture and its units, or that none is
 -- Assumes nothing.
-use Prim.Native.Nat.{ℕ, zero, suc, ◌<◌}
-use native.Mathlib.Nat.{not-suc-le-zero}
-use native.Mathlib.Omega.{arith}
-use mathlib.Core.Path.{◌≡◌, refl}
-use Rattle.model.specs.Arrival.{holds, then}
+use mathlib.Core.Path.{◌≡◌, refl, ap}
+use Rattle.std.specs.Prelude.{Option, None, Some}
+use Rattle.model.specs.Arrival.{Verdict, holds, late}
 use Rattle.arrivals.specs.Seen.{seen_of}
-use Rattle.arrivals.specs.declared.Seen.{Seen}
+use Rattle.arrivals.specs.declared.Late.{Late}
 
-then-one : (i x j y : ℕ) → then holds i x ≡ then holds j y → (x ≡ y) × (0 < x → i ≡ j)
-then-one i zero j zero e = (refl, λ h. absurd (not-suc-le-zero h))
-then-one i zero j (suc y) e = let z : ◌≡◌ {A = ℕ} 0 1 = cc in absurd (omega arith)
-then-one i (suc x) j zero e = let z : ◌≡◌ {A = ℕ} 0 1 = cc in absurd (omega arith)
-then-one i (suc x) j (suc y) e = (cc, λ h. cc)
+late_in : Verdict → Late
+late_in holds = record { picture = 0; units = 0 }
+late_in (late picture units) = record { picture = picture; units = units }
 
-pub seen_of-one : (v w : Seen) → seen_of v ≡ seen_of w → (v.late ≡ w.late) × (0 < v.late → v.picture ≡ w.picture)
-seen_of-one v w e = then-one v.picture v.late w.picture w.late e
+pub seen_of-one : (v w : Option Late) → seen_of v ≡ seen_of w → v ≡ w
+unfolding late_in
+seen_of-one None None e = refl
+seen_of-one None (Some l) e = cc
+seen_of-one (Some l) None e = cc
+seen_of-one (Some l) (Some m) e = ap Some (ap late_in e)

@@ -3,7 +3,8 @@
 
 #![tactic(auto)]
 
-ghost use Rattle.std.specs.Prelude.{◌≡◌, length, IfOk};
+ghost use Rattle.std.specs.Prelude.{◌≡◌, ◌-◌, ◌≤◌, ◌||◌, leb, ltb, length, IfOk};
+ghost use Rattle.rules.specs.Limits.{span_max};
 ghost use Rattle.rules.specs.Refusals as refusal;
 ghost use Rattle.terms.specs.Answers.{lowest, first_fault};
 ghost use Rattle.model.specs.Faults.{bad_clock, bad_size, bad_tick, bad_rate, bad_rate_at, bad_bucket, rate_check, rate_list_check, rates_faults, seconds_faults};
@@ -50,15 +51,20 @@ fn judge_sizes(sizes: &[u64]) -> Judgement
     Ok(())
 }
 
+// Whether a tick is not above the one before or lies too far from the first.
+fn is_bad_tick(first: u64, before: u64, tick: u64) -> bool
+    requires { first ≤ before }
+    ensures { result ≡ (leb tick before || ltb span_max (tick - first)) }
+{
+    tick <= before || SPAN_MAX < tick - first
+}
+
 // Judges the ticks, each by the one before and the first: refusal 5.
 fn judge_ticks(ticks: &[u64]) -> Judgement
     ensures { judgement_of result ≡ first_fault refusal.tick (bad_tick ticks.now) (length ticks.now) }
 {
     for i in 1..ticks.len() {
-        let first = ticks[0];
-        let before = ticks[i - 1];
-        let tick = ticks[i];
-        if tick <= before || SPAN_MAX < tick - first {
+        if is_bad_tick(ticks[0], ticks[i - 1], ticks[i]) {
             return Err(Refusal::Tick(i));
         }
     }

@@ -3,27 +3,24 @@
 
 #![tactic(auto)]
 
-ghost use Rattle.std.specs.Prelude.{◌≡◌, ◌+◌, ◌≤◌, length};
+ghost use Rattle.std.specs.Prelude.{◌≡◌, ◌+◌, ◌≤◌};
 ghost use Rattle.rules.specs.Limits.{rate_max};
 ghost use Rattle.rules.specs.Width.{Word};
-ghost use Rattle.model.specs.Recording.{recording, Within};
-ghost use Rattle.model.specs.Least.{least_buffer, least_fullness};
+ghost use Rattle.model.specs.Recording.{pictures};
+ghost use Rattle.model.specs.Least.{least_bucket};
 ghost use Rattle.model.specs.Needs.{needs_step, needs_below};
+ghost use Rattle.recording.specs.Given.{recording_of, bucket_of};
 ghost use Rattle.needs.specs.Outcome.{needs_of};
+
+use recording::judged::Judged;
+use recording::{Bucket, Recording};
 
 // What the pictures so far need, in units of 1/(R x TS) second: all their bits, and the largest need of a span that ends at
 // the last one, of any span, and of a span that begins at picture 0.
-#[derive(Drop)]
+#[derive(Clone, Copy, Debug, Default, PartialEq, Eq)]
 pub struct Needs {
     pub total: u64,
     pub level: u64,
-    pub buffer: u64,
-    pub fullness: u64,
-}
-
-// Both least figures at one rate.
-#[derive(Drop)]
-pub struct Bucket {
     pub buffer: u64,
     pub fullness: u64,
 }
@@ -44,41 +41,37 @@ pub fn step(m: Needs, bits: u64, last: u64, first: u64) -> Needs
 }
 
 // What a whole recording needs at a rate, in one pass.
-fn measure(sizes: &[u64], ticks: &[u64], ts: u64, nu: u64, rate: u64) -> Needs
-    requires { Within (recording sizes.now ticks.now ts nu) × (rate ≤ rate_max) }
-    ensures { needs_of result ≡ needs_below (recording sizes.now ticks.now ts nu) rate (length sizes.now) }
+fn measure(judged: Judged, rate: u64) -> Needs
+    requires { rate ≤ rate_max }
+    ensures { needs_of result ≡ needs_below (recording_of judged.entry.recording) rate (pictures (recording_of judged.entry.recording)) }
 {
+    let Recording {
+        sizes,
+        ticks,
+        ts,
+        nu,
+    } = judged.recording;
     let fall = rate * nu;
     let first = ticks[0];
     let mut last = first;
-    let mut m = Needs {
-        total: 0,
-        level: 0,
-        buffer: 0,
-        fullness: 0,
-    };
-    let mut i = 0;
-    while i < sizes.len() {
+    let mut m = Needs::default();
+    for (i, &size) in sizes.iter().enumerate() {
         let tick = ticks[i];
-        m = step(
-            m,
-            ts * sizes[i],
-            fall * (tick - last),
-            fall * (tick - first),
-        );
+        m = step(m, ts * size, fall * (tick - last), fall * (tick - first));
         last = tick;
-        i += 1;
     }
     m
 }
 
 // The least figures of a recording that was judged, at a rate that was judged.
-pub fn least_at(sizes: &[u64], ticks: &[u64], ts: u64, nu: u64, rate: u64) -> Bucket
-    requires { Within (recording sizes.now ticks.now ts nu) × (rate ≤ rate_max) }
-    ensures { (result.buffer ≡ least_buffer (recording sizes.now ticks.now ts nu) rate) × (result.fullness ≡ least_fullness (recording sizes.now ticks.now ts nu) rate) }
+pub fn least_at(judged: Judged, rate: u64) -> Bucket
+    requires { rate ≤ rate_max }
+    ensures { bucket_of result ≡ least_bucket (recording_of judged.entry.recording) rate }
 {
-    let m = measure(sizes, ticks, ts, nu, rate);
+    let m = measure(judged, rate);
+    let ts = judged.recording.ts;
     Bucket {
+        rate,
         buffer: numbers::round_up(m.buffer, ts),
         fullness: numbers::round_up(m.fullness, ts),
     }

@@ -10,31 +10,28 @@ ghost use Rattle.terms.specs.Numbers.{round_up, outside};
 pub fn wide(b: u8) -> u64
     ensures { (result ≡ b) × (result < 256) }
 {
-    b as u64
+    u64::from(b)
 }
 
 // Whether x lies outside lo to hi.
 pub fn is_outside(lo: u64, hi: u64, x: u64) -> bool
     ensures { result ≡ outside lo hi x }
 {
-    if x < lo {
-        return true;
-    }
-    hi < x
+    !(lo..=hi).contains(&x)
 }
 
 // a - b, or 0 where b is larger.
 pub fn less(a: u64, b: u64) -> u64
     ensures { result ≡ a - b }
 {
-    if a < b { 0 } else { a - b }
+    a.saturating_sub(b)
 }
 
 // The larger of two numbers.
 pub fn larger(a: u64, b: u64) -> u64
     ensures { result ≡ max a b }
 {
-    if a < b { b } else { a }
+    a.max(b)
 }
 
 // x / d, rounded up.
@@ -42,5 +39,5 @@ pub fn round_up(x: u64, d: u64) -> u64
     requires { (1 ≤ d) × Word (x + (d - 1)) }
     ensures { result ≡ round_up x d }
 {
-    (x + (d - 1)) / d
+    x.div_ceil(d)
 }

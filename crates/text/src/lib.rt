@@ -12,40 +12,40 @@ pub fn put_bytes(bytes: &[u8], text: &mut [u8], at: usize) -> usize
     requires { Room text.old at bytes.now }
     ensures { Put text.old at bytes.now text.new result }
 {
-    let mut i = 0;
-    while i < bytes.len() {
-        text[at + i] = bytes[i];
-        i += 1;
-    }
-    at + i
+    text[at..at + bytes.len()].copy_from_slice(bytes);
+    at + bytes.len()
 }
 
 // Puts a number in decimal.
+#[tactic(auto, using(crate::proofs::PutLaws::decimals))]
 fn put_decimal(n: u64, text: &mut [u8], at: usize) -> usize
     requires { Room text.old at (decimal n) }
     ensures { Put text.old at (decimal n) text.new result }
 {
-    let mut end = at;
-    if 10 <= n {
-        end = put_decimal(n / 10, text, at);
-    }
-    text[end] = (48 + n % 10) as u8;
+    let end = if 10 <= n {
+        put_decimal(n / 10, text, at)
+    } else {
+        at
+    };
+    text[end] = b'0' + (n % 10) as u8;
     end + 1
 }
 
 // Puts the line of a refusal.
+#[tactic(auto, unfolding(layout::specs::Text::letters))]
 pub fn put_refusal(number: u8, place: usize, text: &mut [u8]) -> usize
     requires { Room text.old 0 (refusal_line number place) }
     ensures { Put text.old 0 (refusal_line number place) text.new result }
 {
     let refused = put_bytes(b"refused ", text, 0);
-    let numbered = put_decimal(number as u64, text, refused);
+    let numbered = put_decimal(u64::from(number), text, refused);
     let at = put_bytes(b" at ", text, numbered);
     let placed = put_decimal(place as u64, text, at);
     put_bytes(b"\n", text, placed)
 }
 
 // Puts the line of one rate.
+#[tactic(auto, unfolding(layout::specs::Text::letters))]
 fn put_row(rate: u64, buffer: u64, fullness: u64, text: &mut [u8], at: usize) -> usize
     requires { Room text.old at (row_line rate buffer fullness) }
     ensures { Put text.old at (row_line rate buffer fullness) text.new result }
@@ -59,15 +59,14 @@ fn put_row(rate: u64, buffer: u64, fullness: u64, text: &mut [u8], at: usize) ->
 }
 
 // Puts a whole table: the header line, and the line of each rate.
+#[tactic(auto, unfolding(layout::specs::Text::letters))]
 pub fn put_table(rates: &[u64], buffers: &[u64], fullnesses: &[u64], text: &mut [u8]) -> usize
     requires { Room text.old 0 (table_text rates.now buffers.now fullnesses.now) × (length rates.now ≤ length buffers.now) × (length rates.now ≤ length fullnesses.now) }
     ensures { Put text.old 0 (table_text rates.now buffers.now fullnesses.now) text.new result }
 {
     let mut end = put_bytes(b"rate buffer start\n", text, 0);
-    let mut i = 0;
-    while i < rates.len() {
-        end = put_row(rates[i], buffers[i], fullnesses[i], text, end);
-        i += 1;
+    for ((rate, buffer), fullness) in rates.iter().zip(buffers).zip(fullnesses) {
+        end = put_row(*rate, *buffer, *fullness, text, end);
     }
     end
 }

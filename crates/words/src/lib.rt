@@ -11,20 +11,16 @@ pub fn word_at(bytes: &[u8], i: usize) -> u64
     requires { i + 4 ≤ length bytes.now }
     ensures { (result ≡ word_at bytes.now i) × (result < 2 ^ 32) }
 {
-    numbers::wide(bytes[i])
-        + 256
-            * (numbers::wide(bytes[i + 1])
-                + 256 * (numbers::wide(bytes[i + 2]) + 256 * numbers::wide(bytes[i + 3])))
+    u64::from(u32::from_le_bytes([bytes[i], bytes[i + 1], bytes[i + 2], bytes[i + 3]]))
 }
 
 // Writes `count` words from byte `from` on to the first entries of a list with room for them.
+#[tactic(auto, using(crate::proofs::FrontLaws::stored), unfolding(terms::specs::Numbers::list_of))]
 pub fn read_words(bytes: &[u8], from: usize, count: usize, words: &mut [u64])
     requires { (from + 4 * count ≤ length bytes.now) × (count ≤ length words.old) }
     ensures { words.new ≡ written words.old 0 (words_at bytes.now from count) }
 {
-    let mut i = 0;
-    while i < count {
+    for i in 0..count {
         words[i] = word_at(bytes, from + 4 * i);
-        i += 1;
     }
 }

@@ -1,5 +1,5 @@
 -- `arrivals::run` meets its contract. The loop's invariant: the line is free from the last end on, what was seen is the verdict on the pictures
--- passed, and both lists are filled with their starts and ends. The measure is what is left of the pictures. Assumes nothing.
+-- passed, and both lists are filled with their starts and ends. Assumes nothing.
 use native.Mathlib.Omega.{arith}
 use Rattle.terms.proofs.FilledLaws.{filled-none, filled-more}
 use Rattle.arrivals.proofs.RunLaws.{begun, rises, end-fit, arrives, next}
@@ -7,7 +7,7 @@ use Rattle.arrivals.proofs.run.Goals as goal
 
 pub loop-i-init : goal.loop-i-init
 loop-i-init c = (
-  begun _ _ c.requires,
+  begun _ _ c.args.judged.within c.requires,
   filled-none _ _,
   filled-none _ _,
 )

@@ -4,12 +4,13 @@
 use Prim.Native.Nat.{ℕ, ◌+◌, ◌-◌}
 use native.Mathlib.Nat.{le_refl, le_trans}
 use native.Mathlib.Omega.{arith}
-use mathlib.Core.Path.{◌≡◌, ap, ◌∙◌}
+use mathlib.Core.Path.{◌≡◌, ap, ap₂, ◌∙◌}
 use Rattle.rules.specs.Limits.{bucket_max}
 use Rattle.rules.specs.Width.{Word}
 use Rattle.rules.proofs.Fits.{round_up-fits}
 use Rattle.terms.specs.Numbers.{round_up}
 use Rattle.model.specs.Recording.{Recording, Within, pictures}
+use Rattle.model.specs.Arrival.{bucket}
 use Rattle.model.specs.Least.{least_buffer, least_fullness}
 use Rattle.model.specs.Needs.{Needs, needs_below}
 use Rattle.model.proofs.FaultsLaws.{within-recorded}
@@ -32,12 +33,12 @@ module _ (k : Recording) (rate : ℕ) (m : Needs) (e : m ≡ needs_below k rate 
       rw e (ap (λ x. round_up x k.ts) buffer, ap (λ x. round_up x k.ts) fullness)
 
 pub round_up-requires : goal.round_up-requires
-round_up-requires c = omega (arith, both-fit _ _ _ c.measure-m.ensures c.requires.0, c.requires.0.ticking)
+round_up-requires c = omega (arith, both-fit _ _ _ c.measure-m.ensures c.args.judged.within, c.args.judged.within.ticking)
 
 pub round_up-requires-2 : goal.round_up-requires-2
-round_up-requires-2 c = omega (arith, both-fit _ _ _ c.measure-m.ensures c.requires.0, c.requires.0.ticking)
+round_up-requires-2 c = omega (arith, both-fit _ _ _ c.measure-m.ensures c.args.judged.within, c.args.judged.within.ticking)
 
 pub returns : goal.returns
 returns c =
-    let (buffer, fullness) = both-least _ _ _ c.measure-m.ensures c.requires.0 in
-    (c.round_up.ensures ∙ buffer, c.round_up-2.ensures ∙ fullness)
+    let (buffer, fullness) = both-least _ _ _ c.measure-m.ensures c.args.judged.within in
+    ap₂ (bucket c.args.rate) (c.round_up.ensures ∙ buffer) (c.round_up-2.ensures ∙ fullness)

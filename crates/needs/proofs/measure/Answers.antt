@@ -1,5 +1,5 @@
 -- `needs::measure` meets its contract. The loop's invariant: it holds what the pictures passed need, and `last` is the
--- tick before the next one. The measure is what is left of the list of sizes.
+-- tick before the next one.
 -- Assumes nothing.
 use Prim.Native.Nat.{ℕ, ◌+◌, ◌-◌, ◌*◌, ◌≤◌, ◌<◌, zero-le}
 use native.Mathlib.Nat.{le_refl}
@@ -46,11 +46,11 @@ module _ (k : Recording) (rate last : ℕ) (m : Needs) (i : ℕ) (p : Measured k
       }
 
 pub overflow_mul-fall : goal.overflow_mul-fall
-overflow_mul-fall c = record { fits = (tick_units-fits c.requires.1 c.requires.0.units zero-le).0 }
+overflow_mul-fall c = record { fits = (tick_units-fits c.requires c.args.judged.within.units zero-le).0 }
 
 pub loop-i-init : goal.loop-i-init
 unfolding needs_below
-loop-i-init c = record { kept = c.requires.0; low = c.requires.1; among = zero-le; before = refl; needed = refl }
+loop-i-init c = record { kept = c.args.judged.within; low = c.requires; among = zero-le; before = refl; needed = search rules }
 
 pub overflow_sub-tick : goal.overflow_sub-tick
 overflow_sub-tick c = (last-le _ _ _ _ _ c.loop-i.invariant (search rules)).1

@@ -1,12 +1,12 @@
 -- `needs::measure` meets its contract. The loop's invariant: it holds what the pictures passed need, and `last` is the
--- tick before the next one. The measure is what is left of the list of sizes.
+-- tick before the next one.
 -- Assumes nothing.
-use Prim.Native.Nat.{ℕ, ◌-◌, ◌≤◌}
+use Prim.Native.Nat.{ℕ, ◌≤◌}
 use mathlib.Core.Path.{◌≡◌}
-use lib.ListN.{length}
 use Rattle.rules.specs.Limits.{rate_max}
-use Rattle.model.specs.Recording.{Recording, Within, recording, pictures}
+use Rattle.model.specs.Recording.{Recording, Within, pictures}
 use Rattle.model.specs.Needs.{Needs, tick_before, needs_below}
+use Rattle.recording.specs.Given.{recording_of}
 use Rattle.needs.specs.Outcome.{needs_of}
 use Rattle.needs.proofs.measure.Given as goal
 
@@ -19,7 +19,4 @@ pub record Measured (k : Recording) (rate last : ℕ) (m : Needs) (i : ℕ) : Ty
   pub needed : m ≡ needs_below k rate i
 
 abbrev pub invariant-loop-i : goal.invariant-loop-i
-invariant-loop-i l = Measured (recording l.sizes l.ticks l.ts l.nu) l.rate l.last (needs_of l.m) l.i
-
-abbrev pub decreases-loop-i : goal.decreases-loop-i
-decreases-loop-i l = length l.sizes - l.i
+invariant-loop-i l = Measured (recording_of l.fn.judged.recording) l.fn.rate l.last (needs_of l.m) l.i

@@ -1,40 +1,29 @@
 -- `text::put_table` meets its contract: what is left behind the header line are the lines of the rates.
 -- Assumes nothing.
-use Prim.Native.Nat.{ℕ}
-use mathlib.Core.List.{List}
-use lib.ListN.{length}
-use Rattle.layout.specs.Text.{letters, row_lines, table_text}
-use Rattle.text.specs.Put.{Room, Put}
-use Rattle.text.proofs.PutLaws.{Left, left-all, left-front, left-then}
-use Rattle.text.proofs.RowsLaws.{begun-none, begun-room, begun-more, begun-all}
+use native.Mathlib.Omega.{arith}
+use lib.ListN.{length-append}
+use Rattle.layout.specs.Text.{letters}
+use Rattle.text.proofs.PutLaws.{left-all, left-then}
+use Rattle.text.proofs.RowsLaws.{begun-none, begun-room, begun-more, begun-all, row-turn, row-end}
 use Rattle.text.proofs.put_table.Goals as goal
 
-module _ (rates buffers fullnesses l : List ℕ) (room : Room l 0 (table_text rates buffers fullnesses)) where
-  header-room : Room l 0 (letters "rate buffer start\n")
-  unfolding letters
-  header-room = left-front (letters "rate buffer start\n") _ (left-all l 0 _ room)
-
-  lines-left : (l' : List ℕ) (m : ℕ) → Put l 0 (letters "rate buffer start\n") l' m
-      → Left l 0 (table_text rates buffers fullnesses) l' m (row_lines rates buffers fullnesses (length rates))
-  unfolding letters
-  lines-left = left-then (letters "rate buffer start\n") _ (left-all l 0 _ room)
-
-pub put_bytes-end-requires : goal.put_bytes-end-requires
+pub loop-rate-init : goal.loop-rate-init
 unfolding letters
-put_bytes-end-requires c = header-room _ _ _ c.args.text.now c.requires.0
-
-pub loop-i-init : goal.loop-i-init
-unfolding letters
-loop-i-init c = begun-none _ _ _ _ _ (lines-left _ _ _ c.args.text.now c.requires.0 _ _ c.put_bytes-end.ensures).room
+loop-rate-init c = begun-none _ _ _ _ _ (omega arith)
 
 pub put_row-end-requires : goal.put_row-end-requires
-put_row-end-requires c = begun-room _ _ _ _ _ _ _ _ c.loop-i.invariant c.loop-i-test.true
+put_row-end-requires c =
+    let turn = row-turn _ _ _ c.requires.1 c.requires.2 _ c.into_iter-rate-iterator.result _ c.next.new.self _ (cc) (cc) (cc) c.loop-rate.yielded_by c.next.ensures.steps _ c.in-Some.is in
+    rw turn.1 at (begun-room _ _ _ _ _ _ _ _ c.loop-rate.invariant turn.0)
 
-pub loop-i-preserved : goal.loop-i-preserved
-loop-i-preserved c = begun-more _ _ _ _ _ _ _ _ c.loop-i.invariant c.loop-i-test.true _ _ c.put_row-end.ensures
+pub loop-rate-preserved : goal.loop-rate-preserved
+loop-rate-preserved c =
+    let turn = row-turn _ _ _ c.requires.1 c.requires.2 _ c.into_iter-rate-iterator.result _ c.next.new.self _ (cc) (cc) (cc) c.loop-rate.yielded_by c.next.ensures.steps _ c.in-Some.is in
+    rw length-append (begun-more _ _ _ _ _ _ _ _ c.loop-rate.invariant turn.0 _ _ (rw turn.1 c.put_row-end.ensures))
 
 pub returns : goal.returns
 unfolding letters
 returns c =
-    let left = lines-left _ _ _ c.args.text.now c.requires.0 _ _ c.put_bytes-end.ensures in
-    left.finish _ _ (begun-all _ _ _ _ _ _ _ _ c.loop-i.invariant c.loop-i-test.false)
+    let left = left-then (letters "rate buffer start\n") _ (left-all _ _ _ c.requires.0) _ _ c.put_bytes-end.ensures in
+    let all = row-end _ _ _ c.requires.1 c.requires.2 _ c.into_iter-rate-iterator.result _ c.next.new.self _ (cc) (cc) (cc) c.loop-rate.yielded_by c.next.ensures.steps c.in-None.is in
+    left.finish _ _ (begun-all _ _ _ _ _ _ _ _ c.loop-rate.invariant all)
