@@ -1,10 +1,8 @@
--- Which field of a record stands at a place: get_or (fields_of n) f, by the ways in which the code finds it; and the code of a field's width.
+-- Which field of a record stands at a place: get_or (fields_of n) f, by the ways in which the code finds it.
 -- Definitions: coding/specs/Fields.antt, specs/Steps.antt.
 --     fields_of-length   a record of n rows has 3 + 3 n + 4 fields
---     field-scale        after the count stand the two scales
---     field-row          then the rows, three fields each
+--     field-row          behind the first three stand the rows, three fields each
 --     field-tail         then the four lengths
---     code-ue, code-u    the code of a width that is 0, and of one that is not
 --     field-most         no field's largest value is over that of ue(v)
 --     field-width        no field's code is wider than that of the lengths
 -- Assumes nothing.
@@ -19,11 +17,10 @@ use lib.ListN.{length, get_or, length-append, get_or-append}
 use lib.Seq.{get_or-append-add}
 use lib.Dec.{lit≤}
 use Rattle.rules.specs.Limits.{length_width, value_max}
-use Rattle.coding.specs.Codes.{Code, u, ue}
 use Rattle.coding.specs.Fields as fields
 use Rattle.coding.specs.Fields.{cpb_cnt_minus1, bit_rate_scale, delay_length, row_fields, tail_fields, fields_of}
 use Rattle.coding.proofs.FieldsLaws.{row_fields-length}
-use Rattle.params.specs.Steps.{code_of, field_of, row_field}
+use Rattle.params.specs.Steps.{code_of, width_of, field_of, row_field}
 use Rattle.params.specs.declared.Field.{Field}
 
 pub fields_of-length : (n : ℕ) → length (fields_of n) ≡ 3 + 3 * n + 4
@@ -32,12 +29,6 @@ fields_of-length n = rw length-append (omega (arith, row_fields-length n))
 -- the field at a place
 abbrev pub field_at : (n f : ℕ) → fields.Field
 field_at n f = get_or (fields_of n) f cpb_cnt_minus1
-
-pub field-scale : (n f : ℕ) → (f ≡ 0 → ⊥) → f < 3 → field_at n f ≡ bit_rate_scale
-field-scale n zero some h = absurd (some refl)
-field-scale n (suc zero) some h = refl
-field-scale n (suc (suc zero)) some h = refl
-field-scale n (suc (suc (suc f))) some h = absurd (omega arith)
 
 row-at : (row column : ℕ) → column < 3
     → get_or (fields.bit_rate_value_minus1 row ∷ fields.cpb_size_value_minus1 row ∷ fields.cbr_flag row ∷ []) column cpb_cnt_minus1 ≡ row_field row column
@@ -77,22 +68,6 @@ field-tail n f h g =
     let at : f ≡ suc (suc (suc (length (row_fields n) + i))) = omega (arith, row_fields-length n) in
     ap (field_at n) at ∙ get_or-append-add (row_fields n) tail_fields i cpb_cnt_minus1 ∙ tail-at i (omega arith)
 
-pub code-ue : {w : ℕ} → w ≡ 0 → code_of w ≡ ue
-code-ue e = ap code_of e
-
-pub code-u : (w : ℕ) → (w ≡ 0 → ⊥) → code_of w ≡ u w
-code-u zero h = absurd (h refl)
-code-u (suc w) h = refl
-
--- the width of u(n), and 0 of ue(v)
-abbrev width_of : Code → ℕ
-width_of (u w) = w
-width_of ue = 0
-
-code_of-width : (w : ℕ) → width_of (code_of w) ≡ w
-code_of-width zero = refl
-code_of-width (suc w) = refl
-
 -- what is true of each kind of field is true of the field at a place
 fields-each : (P : fields.Field → Type 0) → P cpb_cnt_minus1 → P bit_rate_scale → ((row column : ℕ) → P (row_field row column)) → P delay_length
     → (n f : ℕ) → f < 3 + 3 * n + 4 → P (field_at n f)
@@ -110,11 +85,9 @@ row-width row zero = lit≤ tt
 row-width row (suc zero) = lit≤ tt
 row-width row (suc (suc c)) = lit≤ tt
 
-pub field-width : (n f : ℕ) (r : Field) → f < 3 + 3 * n + 4 → field_of r ≡ field_at n f → r.width ≤ length_width
+pub field-width : (n f : ℕ) (r : Field) → f < 3 + 3 * n + 4 → field_of r ≡ field_at n f → width_of (code_of r.code) ≤ length_width
 field-width n f r h e =
-    let same : width_of (code_of r.width) ≡ width_of (field_at n f).code = ap (λ g. width_of g.code) e in
-    let small = fields-each (λ g. width_of g.code ≤ length_width) (lit≤ tt) (lit≤ tt) row-width (lit≤ tt) n f h in
-    omega (arith, code_of-width r.width)
+    subst (λ g. width_of g.code ≤ length_width) (sym e) (fields-each (λ g. width_of g.code ≤ length_width) (lit≤ tt) (lit≤ tt) row-width (lit≤ tt) n f h)
 
 row-most : (row column : ℕ) → (row_field row column).most ≤ value_max
 row-most row zero = lit≤ tt

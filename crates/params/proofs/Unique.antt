@@ -1,29 +1,25 @@
 -- Two answers that the promise allows are equal, and no two values of this crate's types say the same. Promise: specs/Promises.antt.
---     position_of-one   of a position
 --     params_of-one     of a record
---     field_of-one      of a field, but for its rule: every number from 2 on says that values do not rise
+--     field_of-one      of a field
 --     record-unique
 -- Assumes nothing.
-use Prim.Native.Nat.{ℕ, zero, suc}
-use native.Mathlib.Omega.{arith}
+use Prim.Native.Nat.{ℕ}
 use mathlib.Core.Path.{◌≡◌, refl, sym, ap, ◌∙◌}
+use Rattle.std.specs.Prelude.{Option, Some, None, Result}
+use Rattle.coding.specs.Codes as codes
 use Rattle.coding.specs.Fields as fields
 use Rattle.coding.specs.Params as params
-use Rattle.judgement.specs.declared.Judgement.{Judgement}
+use Rattle.judgement.specs.declared.Refusal.{Refusal}
 use Rattle.judgement.proofs.Unique.{judgement_of-one}
-use Rattle.params.specs.Outcome.{params_of, position_of}
+use Rattle.params.specs.Outcome.{params_of}
 use Rattle.params.specs.Steps.{code_of, rule_of, stand_of, field_of}
 use Rattle.params.specs.Promises.{RecordPromise}
+use Rattle.params.specs.declared.Code.{Code}
+use Rattle.params.specs.declared.Code.TheVariants as code
 use Rattle.params.specs.declared.Field.{Field}
 use Rattle.params.specs.declared.Params.{Params}
-use Rattle.params.specs.declared.Position.{Position}
-use Rattle.params.specs.declared.Position.TheVariants as position
-
-pub position_of-one : (v w : Position) → position_of v ≡ position_of w → v ≡ w
-position_of-one (position.Next p) (position.Next p') e = cc
-position_of-one (position.Next p) (position.Refused n' i') e = let z : ◌≡◌ {A = ℕ} 0 1 = cc in absurd (omega arith)
-position_of-one (position.Refused n i) (position.Next p') e = let z : ◌≡◌ {A = ℕ} 0 1 = cc in absurd (omega arith)
-position_of-one (position.Refused n i) (position.Refused n' i') e = cc
+use Rattle.params.specs.declared.Rule.{Rule}
+use Rattle.params.specs.declared.Rule.TheVariants as rule
 
 -- the record that means p
 abbrev code_params : params.Params → Params
@@ -44,26 +40,45 @@ code_params p =
 pub params_of-one : (v w : Params) → params_of v ≡ params_of w → v ≡ w
 params_of-one v w e = ap code_params e
 
-code_of-one : (m n : ℕ) → code_of m ≡ code_of n → m ≡ n
-code_of-one zero zero e = refl
-code_of-one zero (suc n) e = let z : ◌≡◌ {A = ℕ} 0 1 = cc in absurd (omega arith)
-code_of-one (suc m) zero e = let z : ◌≡◌ {A = ℕ} 0 1 = cc in absurd (omega arith)
-code_of-one (suc m) (suc n) e = cc
+-- the field that means f
+code_code : codes.Code → Code
+code_code (codes.u w) = code.Unsigned w
+code_code codes.ue = code.ExpGolomb
 
-stand_of-one : (m n : ℕ) → stand_of m ≡ stand_of n → m ≡ n
-stand_of-one zero zero e = refl
-stand_of-one zero (suc n) e = let z : ◌≡◌ {A = ℕ} 0 1 = cc in absurd (omega arith)
-stand_of-one (suc m) zero e = let z : ◌≡◌ {A = ℕ} 0 1 = cc in absurd (omega arith)
-stand_of-one (suc m) (suc n) e = cc
+code_rule : fields.Rule → Rule
+code_rule fields.free = rule.Free
+code_rule fields.rises = rule.Rises
+code_rule fields.does_not_rise = rule.DoesNotRise
 
-pub field_of-one : (v w : Field) → field_of v ≡ field_of w
-    → (v.width ≡ w.width) × (v.most ≡ w.most) × (rule_of v.rule ≡ rule_of w.rule) × (v.row ≡ w.row)
-field_of-one v w e = (
-  code_of-one v.width w.width (ap (λ (f : fields.Field). f.code) e),
-  ap (λ (f : fields.Field). f.most) e,
-  ap (λ (f : fields.Field). f.rule) e,
-  stand_of-one v.row w.row (ap (λ (f : fields.Field). f.stand) e),
-)
+code_row : fields.Stand → Option ℕ
+code_row fields.alone = None
+code_row (fields.in_row row) = Some row
 
-pub record-unique : (p : Params) (v w : Judgement) → RecordPromise p v → RecordPromise p w → v ≡ w
+code_field : fields.Field → Field
+code_field f = record { code = code_code f.code; most = f.most; rule = code_rule f.rule; row = code_row f.stand }
+
+code_code-back : (c : Code) → code_code (code_of c) ≡ c
+unfolding code_code
+code_code-back (code.Unsigned w) = refl
+code_code-back code.ExpGolomb = refl
+
+code_rule-back : (r : Rule) → code_rule (rule_of r) ≡ r
+unfolding code_rule
+code_rule-back rule.Free = refl
+code_rule-back rule.Rises = refl
+code_rule-back rule.DoesNotRise = refl
+
+code_row-back : (row : Option ℕ) → code_row (stand_of row) ≡ row
+unfolding code_row
+code_row-back None = refl
+code_row-back (Some row) = refl
+
+code_field-back : (f : Field) → code_field (field_of f) ≡ f
+unfolding code_field
+code_field-back f = rw (code_code-back f.code, code_rule-back f.rule, code_row-back f.row)
+
+pub field_of-one : (v w : Field) → field_of v ≡ field_of w → v ≡ w
+field_of-one v w e = sym (code_field-back v) ∙ ap code_field e ∙ code_field-back w
+
+pub record-unique : (p : Params) (v w : Result (Unit {0}) Refusal) → RecordPromise p v → RecordPromise p w → v ≡ w
 record-unique p v w a b = judgement_of-one v w (a ∙ sym b)

@@ -1,13 +1,8 @@
--- What this crate's types say, in the standard's names and document 01's numbers and places.
---     params_of     a record: its fields by the standard's names
---     position_of   the next bit position, or a refusal
+-- What this crate's types say, in the standard's names.
+--     params_of    a record: its fields by the standard's names
 -- Assumes nothing.
-use Rattle.std.specs.Prelude.{ℕ}
-use Rattle.terms.specs.Answers as answers
 use Rattle.coding.specs.Params as params
 use Rattle.params.specs.declared.Params.{Params}
-use Rattle.params.specs.declared.Position.{Position}
-use Rattle.params.specs.declared.Position.TheVariants as position
 
 abbrev pub params_of : Params → params.Params
 params_of p =
@@ -23,7 +18,3 @@ params_of p =
       dpb_output_delay_length_minus1 = p.dpb_output_delay_length_minus1;
       time_offset_length = p.time_offset_length;
     }
-
-abbrev pub position_of : Position → answers.Answer ℕ
-position_of (position.Next p) = answers.given p
-position_of (position.Refused number place) = answers.refused number place

@@ -5,14 +5,15 @@
 
 ghost use Rattle.std.specs.Prelude.{◌≡◌, ◌+◌, ◌-◌, ◌*◌, ◌≤◌, ◌<◌, get_or};
 ghost use Rattle.rules.specs.Limits.{cpb_cnt_max};
+ghost use Rattle.coding.specs.Fields as fields;
 ghost use Rattle.coding.specs.Fields.{fields_of, cpb_cnt_minus1, place_of};
 ghost use Rattle.coding.specs.Params.{values_of};
 ghost use Rattle.params.specs.Outcome.{params_of};
-ghost use Rattle.params.specs.Steps.{field_of, stand_of, row_field, kept_by};
+ghost use Rattle.params.specs.Steps.{code_of, stand_of, field_of, row_field, kept_by};
 ghost use Rattle.params.specs.Promises.{RecordPromise};
 
-use judgement::Judgement;
-use rules::{CPB_CNT_MAX, FIELD, LENGTH_WIDTH, SCALE_WIDTH, VALUE_MAX};
+use judgement::{Judgement, Refusal};
+use rules::{CPB_CNT_MAX, LENGTH_WIDTH, SCALE_WIDTH, VALUE_MAX};
 
 // Most values of a record: three before the rows, three for each row, four after them.
 pub const VALUES_MAX: usize = 3 + 3 * CPB_CNT_MAX + 4;
@@ -33,21 +34,49 @@ pub struct Params {
     pub time_offset_length: u64,
 }
 
-// The next bit position; or a refusal, its number and its place.
-#[derive(Drop)]
-pub enum Position {
-    Next(u64),
-    Refused(u8, usize),
+/// How a field is coded: u(n), or ue(v).
+#[derive(Clone, Copy, Debug, PartialEq, Eq)]
+pub enum Code {
+    Unsigned(u64),
+    ExpGolomb,
 }
 
-// A field: u(width), or ue(v) where width is 0; its largest value; its rule, 1 to rise and 2 not to rise from row to row;
-// and its row counted from 1, or 0 where it stands alone.
-#[derive(Clone, Copy)]
+/// What a field's value keeps after the same field of the row before.
+#[derive(Clone, Copy, Debug, PartialEq, Eq)]
+pub enum Rule {
+    Free,
+    Rises,
+    DoesNotRise,
+}
+
+/// A field: its code, its largest value, its rule, and its row if it stands in one.
+#[derive(Clone, Copy, Debug, PartialEq, Eq)]
 pub struct Field {
-    pub width: u64,
+    pub code: Code,
     pub most: u64,
-    pub rule: u64,
-    pub row: usize,
+    pub rule: Rule,
+    pub row: Option<usize>,
+}
+
+impl Field {
+    // A field that stands in no row.
+    fn alone(code: Code, most: u64) -> Field
+        ensures { field_of result ≡ fields.field (code_of code) most fields.free fields.alone }
+    {
+        Field {
+            code,
+            most,
+            rule: Rule::Free,
+            row: None,
+        }
+    }
+
+    /// The place of a fault in the field: its row, or 0.
+    pub fn place(self) -> usize
+        ensures { result ≡ place_of (stand_of self.row) }
+    {
+        self.row.unwrap_or(0)
+    }
 }
 
 // Field number f of a record with n rows.
@@ -55,31 +84,12 @@ pub fn field_at(n: usize, f: usize) -> Field
     requires { (n ≤ cpb_cnt_max) × (f < 3 + 3 * n + 4) }
     ensures { field_of result ≡ get_or (fields_of n) f cpb_cnt_minus1 }
 {
-    if f == 0 {
-        return Field {
-            width: 0,
-            most: CPB_CNT_MAX as u64 - 1,
-            rule: 0,
-            row: 0,
-        };
+    match f {
+        0 => Field::alone(Code::ExpGolomb, CPB_CNT_MAX as u64 - 1),
+        1 | 2 => Field::alone(Code::Unsigned(SCALE_WIDTH), (1 << SCALE_WIDTH) - 1),
+        _ if f < 3 + 3 * n => row_field((f - 3) / 3, (f - 3) % 3),
+        _ => Field::alone(Code::Unsigned(LENGTH_WIDTH), (1 << LENGTH_WIDTH) - 1),
     }
-    if f < 3 {
-        return Field {
-            width: SCALE_WIDTH,
-            most: (1 << SCALE_WIDTH) - 1,
-            rule: 0,
-            row: 0,
-        };
-    }
-    if 3 + 3 * n <= f {
-        return Field {
-            width: LENGTH_WIDTH,
-            most: (1 << LENGTH_WIDTH) - 1,
-            rule: 0,
-            row: 0,
-        };
-    }
-    row_field((f - 3) / 3, (f - 3) % 3)
 }
 
 // Field number column of a row.
@@ -87,27 +97,16 @@ fn row_field(row: usize, column: usize) -> Field
     requires { (row < cpb_cnt_max) × (column < 3) }
     ensures { field_of result ≡ row_field row column }
 {
-    if column == 2 {
-        return Field {
-            width: 1,
-            most: 1,
-            rule: 0,
-            row: row + 1,
-        };
-    }
-    if row == 0 {
-        return Field {
-            width: 0,
-            most: VALUE_MAX,
-            rule: 0,
-            row: row + 1,
-        };
-    }
+    let (code, most, rule) = match column {
+        0 => (Code::ExpGolomb, VALUE_MAX, Rule::Rises),
+        1 => (Code::ExpGolomb, VALUE_MAX, Rule::DoesNotRise),
+        _ => (Code::Unsigned(1), 1, Rule::Free),
+    };
     Field {
-        width: 0,
-        most: VALUE_MAX,
-        rule: 1 + column as u64,
-        row: row + 1,
+        code,
+        most,
+        rule: if row == 0 { Rule::Free } else { rule },
+        row: Some(row),
     }
 }
 
@@ -115,30 +114,19 @@ fn row_field(row: usize, column: usize) -> Field
 pub fn keeps(field: Field, before: u64, v: u64) -> bool
     ensures { result ≡ kept_by (field_of field) before v }
 {
-    if field.most < v {
-        return false;
-    }
-    if field.rule == 0 {
-        return true;
-    }
-    if field.rule == 1 {
-        return before < v;
-    }
-    v <= before
-}
-
-// The place of a fault in a field with this row.
-pub fn place_of(row: usize) -> usize
-    ensures { result ≡ place_of (stand_of row) }
-{
-    if row == 0 { 0 } else { row - 1 }
+    v <= field.most
+        && match field.rule {
+            Rule::Free => true,
+            Rule::Rises => before < v,
+            Rule::DoesNotRise => v <= before,
+        }
 }
 
 // The place of the same field in the row before, of field number f.
 pub fn row_before(f: usize) -> usize
     ensures { result ≡ f - 3 }
 {
-    if f < 3 { 0 } else { f - 3 }
+    f.saturating_sub(3)
 }
 
 // Value number f of a record, in the order of the fields.
@@ -146,41 +134,26 @@ pub fn value_at(params: Params, f: usize) -> u64
     requires { (1 ≤ (params_of params).cpb_cnt) × ((params_of params).cpb_cnt ≤ cpb_cnt_max) × (f < 3 + 3 * (params_of params).cpb_cnt + 4) }
     ensures { result ≡ get_or (values_of (params_of params)) f 0 }
 {
-    let n = params.cpb_cnt;
-    if f == 0 {
-        return n as u64 - 1;
-    }
-    if f == 1 {
-        return params.bit_rate_scale;
-    }
-    if f == 2 {
-        return params.cpb_size_scale;
-    }
-    let end = 3 + 3 * n;
-    if f < end {
-        let row = (f - 3) / 3;
-        let column = (f - 3) % 3;
-        if column == 0 {
-            let rates = params.bit_rate_value_minus1;
-            return rates[row];
+    let end = 3 + 3 * params.cpb_cnt;
+    match f {
+        0 => params.cpb_cnt as u64 - 1,
+        1 => params.bit_rate_scale,
+        2 => params.cpb_size_scale,
+        _ if f < end => {
+            let row = (f - 3) / 3;
+            match (f - 3) % 3 {
+                0 => params.bit_rate_value_minus1[row],
+                1 => params.cpb_size_value_minus1[row],
+                _ => params.cbr_flag[row],
+            }
         }
-        if column == 1 {
-            let sizes = params.cpb_size_value_minus1;
-            return sizes[row];
-        }
-        let flags = params.cbr_flag;
-        return flags[row];
+        _ => match f - end {
+            0 => params.initial_cpb_removal_delay_length_minus1,
+            1 => params.cpb_removal_delay_length_minus1,
+            2 => params.dpb_output_delay_length_minus1,
+            _ => params.time_offset_length,
+        },
     }
-    if f == end {
-        return params.initial_cpb_removal_delay_length_minus1;
-    }
-    if f == end + 1 {
-        return params.cpb_removal_delay_length_minus1;
-    }
-    if f == end + 2 {
-        return params.dpb_output_delay_length_minus1;
-    }
-    params.time_offset_length
 }
 
 // Judges a record: every fault is 10, the first in bit order at its row or 0.
@@ -188,21 +161,15 @@ pub fn judge_params(params: Params) -> Judgement
     ensures { RecordPromise params result }
 {
     let n = params.cpb_cnt;
-    if n == 0 {
-        return Judgement::Refused(FIELD, 0);
+    if n == 0 || CPB_CNT_MAX < n {
+        return Err(Refusal::Field(0));
     }
-    if CPB_CNT_MAX < n {
-        return Judgement::Refused(FIELD, 0);
-    }
-    let mut f = 0;
-    while f < 3 + 3 * n + 4 {
+    for f in 0..3 + 3 * n + 4 {
         let field = field_at(n, f);
-        let row = field.row;
         let before = value_at(params, row_before(f));
         if !keeps(field, before, value_at(params, f)) {
-            return Judgement::Refused(FIELD, place_of(row));
+            return Err(Refusal::Field(field.place()));
         }
-        f += 1;
     }
-    Judgement::Passed
+    Ok(())
 }

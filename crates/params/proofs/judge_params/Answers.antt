@@ -1,16 +1,16 @@
--- `params::judge_params` meets its contract. The loop's invariant: the fields that are left, judged after the values passed, are judged as the whole
--- record is. The measure is what is left of the fields. Assumes nothing.
+-- `params::judge_params` meets its contract: from one turn of the loop to the next, the field passed is judged by the third value back.
+-- Assumes nothing.
 use Prim.Native.Nat.{ℕ, zero, suc, ◌+◌, ◌-◌, ◌*◌, ◌≤◌, ◌<◌}
 use native.Mathlib.Nat.{le_of_lt}
 use native.Mathlib.Numerals.{add-one}
 use native.Mathlib.Omega.{arith}
 use mathlib.Core.Path.{◌≡◌, refl, sym, ap, ◌∙◌}
-use mathlib.Core.Bool.{true, false, cond, or-true}
+use mathlib.Core.Bool.{Bool, true, false, cond}
 use mathlib.Core.List.{List, []}
 use lib.ListN.{length, get_or, take, drop, drop_of_length-le}
 use lib.Seq.{get_or-take, drop-cons, take-suc, length-take-le}
 use borrow.Author.Rules.{rules}
-use borrow.Author.Tests.{lt-ltb}
+use Rattle.std.proofs.lemmas.Bool.Decides.{nat_tests}
 use Rattle.rules.specs.Limits.{cpb_cnt_max}
 use Rattle.rules.specs.Refusals as refusal
 use Rattle.terms.specs.Answers.{passed, refused}
@@ -23,8 +23,8 @@ use Rattle.params.specs.Outcome.{params_of}
 use Rattle.params.specs.Steps.{stand_of, field_of, kept_by}
 use Rattle.params.specs.declared.Field as code
 use Rattle.params.proofs.FieldAtLaws.{fields_of-length}
-use Rattle.params.proofs.ValuesLaws.{walk-next, At, within-fields, within-values}
-use Rattle.params.proofs.judge_params.Invariants.{judged_left, Judging}
+use Rattle.params.proofs.ValuesLaws.{At, within-fields, within-values}
+use Rattle.params.proofs.judge_params.Invariants.{judged_left}
 use Rattle.params.proofs.judge_params.Goals as goal
 
 -- a count out of range is refused, and after one in range the fields are judged
@@ -47,46 +47,36 @@ kept-same : (n : ℕ) (vs : List ℕ) (f v : ℕ) → f ≤ length vs
 kept-same n vs zero v h = refl
 kept-same n vs (suc f) v h = rw (length-take-le (suc f) vs h, get_or-take (suc f) vs (suc f - 3) 0 (omega arith))
 
-module _ (p : Params) (f : ℕ) (h : Judging p f) where
-  whole : judged_left p f ≡ params_judged p
-  whole = h.same ∙ sym (count-judged p h.walk.some h.walk.few)
+-- one turn of the loop, from what its calls answer
+judged-next : (p : Params) (f i : ℕ) (field : code.Field) (before v : ℕ) (kept : Bool) → f < 3 + 3 * p.cpb_cnt + 4 → i ≡ f - 3
+    → field_of field ≡ get_or (fields_of p.cpb_cnt) f cpb_cnt_minus1 → before ≡ get_or (values_of p) i 0 → v ≡ get_or (values_of p) f 0
+    → kept ≡ kept_by (field_of field) before v → judged_left p f ≡ cond kept (judged_left p (f + 1)) (refused refusal.field (place_of (stand_of field.row)))
+judged-next p f i field before v kept h back is e value k =
+    let at : At p f field v = record { within = h; is = is; value = value } in
+    let inside = within-values p f field v at in
+    rw (k, e, back, value, add-one)
+    (judged-more (fields_of p.cpb_cnt) (values_of p) cpb_cnt_minus1 f (within-fields p f field v at) inside
+    ∙ rw (← kept-same p.cpb_cnt (values_of p) f (get_or (values_of p) f 0) (le_of_lt inside), ← is))
 
-  module _ (field : code.Field) (before v : ℕ) (at : At p f field v) (e : before ≡ get_or (values_of p) (f - 3) 0) where
-    judged-next : judged_left p f ≡ cond (kept_by (field_of field) before v) (judged_left p (f + 1)) (refused refusal.field (place_of (stand_of field.row)))
-    judged-next =
-        let inside = within-values p f field v at in
-        rw (e, at.value, add-one)
-        (judged-more (fields_of p.cpb_cnt) (values_of p) cpb_cnt_minus1 f (within-fields p f field v at) inside
-        ∙ rw (← kept-same p.cpb_cnt (values_of p) f (get_or (values_of p) f 0) (le_of_lt inside), ← at.is))
-
-    next : kept_by (field_of field) before v ≡ true → Judging p (f + 1)
-    next k = record { walk = walk-next h.walk at.within; same = rw k at (sym judged-next) ∙ h.same }
-
-    fault : kept_by (field_of field) before v ≡ false → refused refusal.field (place_of (stand_of field.row)) ≡ params_judged p
-    fault k = rw k at (sym judged-next) ∙ whole
-
-  done : 3 + 3 * p.cpb_cnt + 4 ≤ f → passed ≡ params_judged p
-  unfolding fields_judged
-  done end = rw (drop_of_length-le (fields_of p.cpb_cnt) {i = f} (omega (arith, fields_of-length p.cpb_cnt))) at whole
+judged-none : (p : Params) (f : ℕ) → 3 + 3 * p.cpb_cnt + 4 ≤ f → judged_left p f ≡ passed
+unfolding fields_judged
+judged-none p f h = rw (drop_of_length-le (fields_of p.cpb_cnt) {i = f} (omega (arith, fields_of-length p.cpb_cnt)))
 
 pub returns-then-n-eq0 : goal.returns-then-n-eq0
-returns-then-n-eq0 c = sym (count-refused (params_of c.args.params) (rw c.if-n-eq0.true))
+returns-then-n-eq0 c = sym (count-refused (params_of c.args.params) (grind (arith, nat_tests, c.then-n-eq0.either)))
 
-pub returns-then-n-gt-CPB_CNT_MAX : goal.returns-then-n-gt-CPB_CNT_MAX
-returns-then-n-gt-CPB_CNT_MAX c = sym (count-refused (params_of c.args.params) (rw (lt-ltb _ _ c.if-n-gt-CPB_CNT_MAX.true, or-true)))
+pub loop-f-init : goal.loop-f-init
+loop-f-init c = sym (count-judged (params_of c.args.params) (search rules) (search rules))
 
 pub returns-then-not-keeps : goal.returns-then-not-keeps
 returns-then-not-keeps c =
-    let turn : At (params_of c.args.params) c.loop-f.f c.field_at-field.result c.value_at.result = record { within = search rules; is = c.field_at-field.ensures; value = c.value_at.ensures } in
-    let back = c.value_at-before.ensures ∙ ap (λ i. get_or (values_of (params_of c.args.params)) i 0) c.row_before.ensures in
-    ap (refused refusal.field) c.place_of.ensures
-    ∙ fault _ _ c.loop-f.invariant _ _ _ turn back (sym c.keeps.ensures ∙ c.if-not-keeps.true)
+    let next = judged-next (params_of c.args.params) _ _ _ _ _ false c.loop-f-test.true c.row_before.ensures c.field_at-field.ensures c.value_at-before.ensures c.value_at.ensures c.if-not-keeps.ensures in
+    ap (refused refusal.field) c.place.ensures ∙ sym next ∙ c.loop-f.invariant
 
 pub loop-f-preserved : goal.loop-f-preserved
 loop-f-preserved c =
-    let turn : At (params_of c.args.params) c.loop-f.f c.field_at-field.result c.value_at.result = record { within = search rules; is = c.field_at-field.ensures; value = c.value_at.ensures } in
-    let back = c.value_at-before.ensures ∙ ap (λ i. get_or (values_of (params_of c.args.params)) i 0) c.row_before.ensures in
-    next _ _ c.loop-f.invariant _ _ _ turn back (sym c.keeps.ensures ∙ c.if-not-keeps.false)
+    let next = judged-next (params_of c.args.params) _ _ _ _ _ true c.loop-f-test.true c.row_before.ensures c.field_at-field.ensures c.value_at-before.ensures c.value_at.ensures c.if-not-keeps.ensures in
+    sym next ∙ c.loop-f.invariant
 
 pub returns : goal.returns
-returns c = done _ _ c.loop-f.invariant c.loop-f-test.false
+returns c = sym (judged-none (params_of c.args.params) c.loop-f.f c.loop-f-test.false) ∙ c.loop-f.invariant
