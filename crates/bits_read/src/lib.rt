@@ -10,14 +10,14 @@ ghost use Rattle.bits_read.specs.Outcome.{read_of};
 
 use rules::{BYTES_MAX, ZEROS_MAX};
 
-/// A code that was read: its value, and the position after it.
+// A code that was read: its value, and the position after it.
 #[derive(Clone, Copy, Debug, PartialEq, Eq)]
 pub struct Code {
     pub value: u64,
     pub next: u64,
 }
 
-/// Why no code was read: the bits end inside it, or it breaks the rule. Both carry its first bit.
+// Why no code was read: the bits end inside it, or it breaks the rule. Both carry its first bit.
 #[derive(Clone, Copy, Debug, PartialEq, Eq)]
 pub enum CodeFault {
     Ended(u64),

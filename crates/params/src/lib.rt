@@ -34,14 +34,14 @@ pub struct Params {
     pub time_offset_length: u64,
 }
 
-/// How a field is coded: u(n), or ue(v).
+// How a field is coded: u(n), or ue(v).
 #[derive(Clone, Copy, Debug, PartialEq, Eq)]
 pub enum Code {
     Unsigned(u64),
     ExpGolomb,
 }
 
-/// What a field's value keeps after the same field of the row before.
+// What a field's value keeps after the same field of the row before.
 #[derive(Clone, Copy, Debug, PartialEq, Eq)]
 pub enum Rule {
     Free,
@@ -49,7 +49,7 @@ pub enum Rule {
     DoesNotRise,
 }
 
-/// A field: its code, its largest value, its rule, and its row if it stands in one.
+// A field: its code, its largest value, its rule, and its row if it stands in one.
 #[derive(Clone, Copy, Debug, PartialEq, Eq)]
 pub struct Field {
     pub code: Code,
@@ -71,7 +71,7 @@ impl Field {
         }
     }
 
-    /// The place of a fault in the field: its row, or 0.
+    // The place of a fault in the field: its row, or 0.
     pub fn place(self) -> usize
         ensures { result ≡ place_of (stand_of self.row) }
     {
