@@ -4,15 +4,17 @@
 --     stop            then what is returned says what the first of the judgements left says
 --     pass            a step that passes leaves the judgements after it
 --     passes          and of a step that passes it passes
+--     stop-answer     as `stop`, of an answer with a value
+--     on_ok           what follows from passing holds where nothing is refused
 --     last            the last judgement left is the outcome
 -- Assumes nothing.
 use mathlib.Core.Path.{◌≡◌, refl, sym, ap, ◌∙◌}
 use mathlib.Core.List.{List, [], ◌∷◌}
 use Rattle.std.specs.Prelude.{Result, Ok, Err}
-use Rattle.std.specs.Result.{IsErrAnd}
-use Rattle.terms.specs.Answers.{Judgement, given, refused, passed, first}
-use Rattle.terms.proofs.AnswersLaws.{skip, here}
-use Rattle.judgement.specs.Outcome.{number_of, place_of, judgement_of}
+use Rattle.std.specs.Result.{IsErrAnd, OnOk}
+use Rattle.terms.specs.Answers.{Judgement, given, refused, passed, first, answer_with}
+use Rattle.terms.proofs.AnswersLaws.{skip, here, answer-refused}
+use Rattle.judgement.specs.Outcome.{number_of, place_of, answer_by, judgement_of}
 use Rattle.judgement.specs.declared.Refusal.{Refusal}
 
 pub stopped : {A : Type 0} (out : Result A Refusal) (e : Refusal) → IsErrAnd out (λ y. y ≡ e) → out ≡ Err e
@@ -33,6 +35,15 @@ stop r out e js says was left = ap judgement_of (stopped out e left) ∙ sym (he
 pub pass : {A : Type 0} (r : Result A Refusal) (x : A) {j : Judgement} (js : List Judgement) → judgement_of r ≡ j → r ≡ Ok x
     → first (j ∷ js) ≡ first js
 pass r x js says was = skip js (passes r x says was)
+
+pub stop-answer : {A B C : Type 0} (f : B → C) (r : Result A Refusal) (out : Result B Refusal) (e : Refusal) {j : Judgement} (js : List Judgement) (v : C)
+    → judgement_of r ≡ j → r ≡ Err e → IsErrAnd out (λ y. y ≡ e) → answer_by f out ≡ answer_with (first (j ∷ js)) v
+stop-answer f r out e js v says was left =
+    ap (answer_by f) (stopped out e left) ∙ sym (answer-refused v (here js (refuses r e says was)))
+
+pub on_ok : {A P : Type 0} (r : Result A Refusal) {j : Judgement} → judgement_of r ≡ j → (j ≡ passed → P) → OnOk r P
+on_ok (Ok x) says gives = gives (sym says)
+on_ok (Err e) says gives = tt
 
 pub last : (j : Judgement) → first (j ∷ []) ≡ j
 unfolding first

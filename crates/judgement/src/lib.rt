@@ -3,7 +3,7 @@
 
 #![tactic(auto)]
 
-ghost use Rattle.std.specs.Prelude.{◌≡◌, [], ◌∷◌, ◌+◌, ltb};
+ghost use Rattle.std.specs.Prelude.{◌≡◌, [], ◌∷◌, ◌+◌, ◌≤◌, ltb, OnOk};
 ghost use Rattle.rules.specs.Refusals as refusal;
 ghost use Rattle.terms.specs.Answers.{refuse_if, lower as lower_of, lowest};
 ghost use Rattle.judgement.specs.Outcome.{number_of, place_of, judgement_of};
@@ -93,7 +93,8 @@ pub fn lower(a: Judgement, b: Judgement) -> Judgement
 
 // Judges the room of a lent list of `len` entries for `count` of them from entry `at` on: refusal 8.
 pub fn judge_room(len: usize, at: usize, count: usize) -> Judgement
-    ensures { judgement_of result ≡ refuse_if (ltb len (at + count)) refusal.room 0 }
+    ensures judges { judgement_of result ≡ refuse_if (ltb len (at + count)) refusal.room 0 }
+    ensures roomy { OnOk result (at + count ≤ len) }
 {
     if len < at {
         return Err(Refusal::Room);
@@ -103,7 +104,8 @@ pub fn judge_room(len: usize, at: usize, count: usize) -> Judgement
 
 // The same of two lists that are lent alike.
 pub fn judge_rooms(first: usize, second: usize, at: usize, count: usize) -> Judgement
-    ensures { judgement_of result ≡ lowest (refuse_if (ltb first (at + count)) refusal.room 0 ∷ refuse_if (ltb second (at + count)) refusal.room 0 ∷ []) }
+    ensures judges { judgement_of result ≡ lowest (refuse_if (ltb first (at + count)) refusal.room 0 ∷ refuse_if (ltb second (at + count)) refusal.room 0 ∷ []) }
+    ensures roomy { OnOk result ((at + count ≤ first) × (at + count ≤ second)) }
 {
     lower(judge_room(first, at, count), judge_room(second, at, count))
 }

@@ -1,2 +1,3 @@
 mod Places
+mod Limits
 pub mod Unique

@@ -3,11 +3,11 @@
 
 #![tactic(auto)]
 
-ghost use Rattle.std.specs.Prelude.{◌≡◌, ◌-◌, ◌≤◌, ◌||◌, leb, ltb, length, IfOk};
-ghost use Rattle.rules.specs.Limits.{span_max};
+ghost use Rattle.std.specs.Prelude.{◌≡◌, ◌-◌, ◌≤◌, ◌||◌, leb, ltb, length, IfOk, OnOk};
+ghost use Rattle.rules.specs.Limits.{span_max, rate_max, bucket_max};
 ghost use Rattle.rules.specs.Refusals as refusal;
 ghost use Rattle.terms.specs.Answers.{lowest, first_fault};
-ghost use Rattle.model.specs.Faults.{bad_clock, bad_size, bad_tick, bad_rate, bad_rate_at, bad_bucket, rate_check, rate_list_check, rates_faults, seconds_faults};
+ghost use Rattle.model.specs.Faults.{RatesWithin, bad_clock, bad_size, bad_tick, bad_rate, bad_rate_at, bad_bucket, rate_check, rate_list_check, rates_faults, seconds_faults};
 ghost use Rattle.model.specs.Outcomes.{judge_outcome};
 ghost use Rattle.judgement.specs.Outcome.{judgement_of};
 ghost use Rattle.recording.specs.Given.{recording_of, bucket_of};
@@ -97,7 +97,8 @@ pub fn judged<'a>(recording: Recording<'a>) -> Result<Judged<'a>, Refusal>
 
 // Judges one rate: refusal 6.
 pub fn judge_rate(rate: u64) -> Judgement
-    ensures { judgement_of result ≡ rate_check rate }
+    ensures judges { judgement_of result ≡ rate_check rate }
+    ensures within { OnOk result (rate ≤ rate_max) }
 {
     refuse_if(is_bad_rate(rate), Refusal::Rate(0))
 }
@@ -118,7 +119,8 @@ pub fn judge_rate_list(rates: &[u64]) -> Judgement
 
 // Judges a list of rates, their number first: refusal 6.
 pub fn judge_rates(rates: &[u64]) -> Judgement
-    ensures { judgement_of result ≡ lowest (rates_faults rates.now) }
+    ensures judges { judgement_of result ≡ lowest (rates_faults rates.now) }
+    ensures within { OnOk result (RatesWithin rates.now) }
 {
     refuse_if(
         numbers::is_outside(1, ROWS_MAX as u64, rates.len() as u64),
@@ -129,7 +131,8 @@ pub fn judge_rates(rates: &[u64]) -> Judgement
 
 // Judges a bucket at its rate: refusals 6 and 7.
 pub fn judge_bucket(bucket: Bucket) -> Judgement
-    ensures { judgement_of result ≡ lowest (seconds_faults (bucket_of bucket)) }
+    ensures judges { judgement_of result ≡ lowest (seconds_faults (bucket_of bucket)) }
+    ensures within { OnOk result ((bucket.rate ≤ rate_max) × (bucket.buffer ≤ bucket_max) × (bucket.fullness ≤ bucket.buffer)) }
 {
     judge_rate(bucket.rate)?;
     refuse_if(

@@ -6,10 +6,11 @@ use native.Mathlib.Omega.{arith}
 use mathlib.Core.Path.{◌≡◌, sym, ap, ◌∙◌}
 use mathlib.Core.Bool.{true}
 use lib.Dec.{ltb}
-use borrow.Author.Tests.{lt-ltb, le-ltb}
+use borrow.Author.Tests.{lt-ltb, le-ltb, ltb-false}
 use Rattle.rules.specs.Refusals as refusal
 use Rattle.terms.specs.Answers.{refuse_if}
-use Rattle.terms.proofs.AnswersLaws.{test-true}
+use Rattle.terms.proofs.AnswersLaws.{test-true, refuse_if-passed}
+use Rattle.judgement.proofs.Steps.{on_ok}
 use Rattle.judgement.proofs.judge_room.Goals as goal
 
 past-end : (len at count : ℕ) → len < at → ltb len (at + count) ≡ true
@@ -22,9 +23,10 @@ left-over len at count h =
       | no g ↦ le-ltb (len - at) count (omega arith) ∙ sym (le-ltb len (at + count) (omega arith))
     ]
 
-pub returns-then-len-at : goal.returns-then-len-at
-returns-then-len-at c = sym (test-true refusal.room 0 (past-end _ _ _ c.if-len-at.true))
+pub returns-then-len-at-clause-judges : goal.returns-then-len-at-clause-judges
+returns-then-len-at-clause-judges c = sym (test-true refusal.room 0 (past-end _ _ _ c.if-len-at.true))
 
 pub returns : goal.returns
 returns c =
-    c.refuse_if.ensures ∙ ap (λ bad. refuse_if bad refusal.room 0) (left-over _ _ _ c.if-len-at.false)
+    let judges = c.refuse_if.ensures ∙ ap (λ bad. refuse_if bad refusal.room 0) (left-over _ _ _ c.if-len-at.false) in
+    record { judges = judges; roomy = on_ok _ judges (λ pass. ltb-false _ _ ((refuse_if-passed _ refusal.room 0).0 pass)) }
