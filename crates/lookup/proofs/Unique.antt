@@ -3,21 +3,19 @@
 --     lookup-unique
 -- Assumes nothing.
 use Prim.Native.Nat.{ℕ}
-use native.Mathlib.Omega.{arith}
-use mathlib.Core.Path.{◌≡◌, sym, ap, ap₂, ◌∙◌}
-use Rattle.model.specs.Arrival.{bucket}
+use mathlib.Core.Path.{◌≡◌, sym, ◌∙◌}
+use Rattle.std.specs.Prelude.{Result}
 use Rattle.model.specs.Lookup.{Table}
+use Rattle.judgement.specs.declared.Refusal.{Refusal}
+use Rattle.judgement.proofs.Unique.{answer_by-one}
+use Rattle.recording.specs.Given.{bucket_of}
+use Rattle.recording.specs.declared.Bucket.{Bucket}
+use Rattle.recording.proofs.Unique.{bucket_of-one}
 use Rattle.lookup.specs.Outcome.{found_of}
 use Rattle.lookup.specs.Promises.{LookupPromise}
-use Rattle.lookup.specs.declared.Found.{Found}
-use Rattle.lookup.specs.declared.Found.TheVariants as found
 
-pub found_of-one : (rate : ℕ) (v w : Found) → found_of rate v ≡ found_of rate w → v ≡ w
-found_of-one rate (found.Bucket b f) (found.Bucket b' f') e =
-    let same : bucket rate b f ≡ bucket rate b' f' = cc in ap₂ found.Bucket (ap (λ u. u.buffer) same) (ap (λ u. u.fullness) same)
-found_of-one rate (found.Bucket b f) (found.Refused n' i') e = let z : ◌≡◌ {A = ℕ} 0 1 = cc in absurd (omega arith)
-found_of-one rate (found.Refused n i) (found.Bucket b' f') e = let z : ◌≡◌ {A = ℕ} 0 1 = cc in absurd (omega arith)
-found_of-one rate (found.Refused n i) (found.Refused n' i') e = cc
+pub found_of-one : (v w : Result Bucket Refusal) → found_of v ≡ found_of w → v ≡ w
+found_of-one = answer_by-one bucket_of bucket_of-one
 
-pub lookup-unique : (t : Table) (rate : ℕ) (v w : Found) → LookupPromise t rate v → LookupPromise t rate w → v ≡ w
-lookup-unique t rate v w p q = found_of-one rate v w (p ∙ sym q)
+pub lookup-unique : (t : Table) (rate : ℕ) (v w : Result Bucket Refusal) → LookupPromise t rate v → LookupPromise t rate w → v ≡ w
+lookup-unique t rate v w p q = found_of-one v w (p ∙ sym q)

@@ -1,3 +1,4 @@
+pub mod Given
 pub mod Outcome
 pub mod Ready
 pub mod Promises

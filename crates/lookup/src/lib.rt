@@ -4,52 +4,39 @@
 
 ghost use Rattle.std.specs.Prelude.{◌≡◌, ◌*◌, ◌≤◌, ◌<◌, length};
 ghost use Rattle.rules.specs.Refusals as refusal;
-ghost use Rattle.rules.specs.Limits.{rate_max, bucket_max, nu_max, span_max, ts_max};
+ghost use Rattle.rules.specs.Limits.{rate_max, bucket_max};
 ghost use Rattle.terms.specs.Numbers.{round_up};
-ghost use Rattle.terms.specs.Answers.{FirstBad, first_fault, lowest};
-ghost use Rattle.model.specs.Lookup.{table, axis, rows_up_to, blend as blend_of, figure_at};
-ghost use Rattle.model.specs.Faults.{bad_span, bad_row, lookup_faults};
+ghost use Rattle.terms.specs.Answers.{first_fault, lowest};
+ghost use Rattle.model.specs.Lookup.{axis, blend as blend_of, figure_at};
+ghost use Rattle.model.specs.Faults.{bad_row, table_lengths_check, table_clock_check, lookup_faults};
 ghost use Rattle.judgement.specs.Outcome.{judgement_of};
-ghost use Rattle.lookup.specs.Ready.{FigureReady};
+ghost use Rattle.lookup.specs.Given.{table_of};
+ghost use Rattle.lookup.specs.Ready.{AxisReady, ColumnReady, LastAt};
 ghost use Rattle.lookup.specs.Promises.{LookupPromise};
 
-use judgement::Judgement;
-use rules::{BUCKET, CLOCK, LENGTHS, SPAN_MAX};
+use judgement::{Judgement, Refusal, refuse_if};
+use recording::Bucket;
+use rules::SPAN_MAX;
 
-// Buffer and start fullness; or a refusal, its number and its place.
-#[derive(Drop)]
-pub enum Found {
-    Bucket(u64, u64),
-    Refused(u8, usize),
+// Rates, buffers and start fullnesses of the rows, side by side, as the C interface lends them; the clock, TS and NU; and the span.
+#[derive(Clone, Copy)]
+pub struct Table<'a> {
+    pub rates: &'a [u64],
+    pub buffers: &'a [u64],
+    pub fullnesses: &'a [u64],
+    pub ts: u64,
+    pub nu: u64,
+    pub span: u64,
 }
 
-// The first row whose buffer or fullness is out of range, or the number of rows.
-fn first_bad_row(buffers: &[u64], fullnesses: &[u64]) -> usize
-    requires { length fullnesses.now ≡ length buffers.now }
-    ensures { FirstBad (bad_row buffers.now fullnesses.now) (length buffers.now) result }
-{
-    let mut i = 0;
-    while i < buffers.len() {
-        if judging::is_bad_bucket(buffers[i], fullnesses[i]) {
-            return i;
-        }
-        i += 1;
-    }
-    i
-}
-
-// The number of the last row, counted from 1, whose rate is at most `rate`; 0 for none.
-fn rows_up_to(rates: &[u64], rate: u64) -> usize
-    ensures { (result ≡ rows_up_to rates.now rate (length rates.now)) × (result ≤ length rates.now) }
-{
-    let mut i = rates.len();
-    while 0 < i {
-        if rates[i - 1] <= rate {
-            return i;
-        }
-        i -= 1;
-    }
-    i
+// What a figure is looked up by: the rates of a table that was judged, its clock and its span.
+#[derive(Clone, Copy)]
+struct Axis<'a> {
+    rates: &'a [u64],
+    ts: u64,
+    nu: u64,
+    span: u64,
+    ghost ready: { AxisReady (axis rates.now ts nu span) },
 }
 
 // Between row a and row b, interpolated straight and rounded up. All is computed in 64 bits, which it fits.
@@ -60,40 +47,56 @@ fn blend(ra: u64, rb: u64, xa: u64, xb: u64, r: u64) -> u64
     numbers::round_up(xa * (rb - r) + xb * (r - ra), rb - ra)
 }
 
-// By how much a figure grows p bits per second below the first row.
-fn growth(p: u64, ts: u64, nu: u64, span: u64) -> u64
-    requires { (p < rate_max) × (1 ≤ ts) × (ts ≤ ts_max) × (nu ≤ nu_max) × (span ≤ span_max) }
-    ensures { (result ≡ round_up (p * nu * span) ts) × (result ≤ p * nu * span) }
-{
-    numbers::round_up(p * nu * span, ts)
+impl Axis<'_> {
+    // The last row whose rate is at most `rate`.
+    fn row_at(self, rate: u64) -> Option<usize>
+        ensures { LastAt self.entry.rates.now rate result }
+    {
+        self.rates.iter().rposition(|row| *row <= rate)
+    }
+
+    // By how much a figure grows p bits per second below the first row.
+    fn growth(self, p: u64) -> u64
+        requires { p < rate_max }
+        ensures { (result ≡ round_up (p * self.entry.nu * self.entry.span) self.entry.ts) × (result ≤ p * self.entry.nu * self.entry.span) }
+    {
+        numbers::round_up(p * self.nu * self.span, self.ts)
+    }
+
+    // The figure X at a rate, from the last row at or below it, X being the buffers or the fullnesses of the table.
+    fn figure(self, xs: &[u64], rate: u64, row: Option<usize>) -> u64
+        requires { ColumnReady (length self.rates.now) xs.now × LastAt self.rates.now rate row × (1 ≤ rate) }
+        ensures { result ≡ figure_at (axis self.entry.rates.now self.entry.ts self.entry.nu self.entry.span) xs.now rate }
+    {
+        let rates = self.rates;
+        match row {
+            None => xs[0] + self.growth(rates[0] - rate),
+            Some(a) if rates[a] == rate => xs[a],
+            Some(a) if a + 1 == rates.len() => xs[a],
+            Some(a) => blend(rates[a], rates[a + 1], xs[a], xs[a + 1], rate),
+        }
+    }
 }
 
-// The figure X at a rate, from the last row at or below it, X being the buffers or the fullnesses of a table that was judged.
-fn figure(rates: &[u64], xs: &[u64], ts: u64, nu: u64, span: u64, rate: u64, row: usize) -> u64
-    requires { FigureReady (axis rates.now ts nu span) xs.now × (row ≡ rows_up_to rates.now rate (length rates.now)) × (row ≤ length rates.now) × (1 ≤ rate) }
-    ensures { result ≡ figure_at (axis rates.now ts nu span) xs.now rate }
+// Judges the number of buffers and of fullnesses by that of the rates: refusal 2.
+fn judge_lengths(table: Table) -> Judgement
+    ensures { judgement_of result ≡ table_lengths_check (table_of table.entry) }
 {
-    if row == 0 {
-        return xs[0] + growth(rates[0] - rate, ts, nu, span);
-    }
-    let a = row - 1;
-    if rates[a] == rate {
-        return xs[a];
-    }
-    if row == rates.len() {
-        return xs[a];
-    }
-    blend(rates[a], rates[row], xs[a], xs[row], rate)
+    let rows = table.rates.len();
+    refuse_if(
+        table.buffers.len() != rows || table.fullnesses.len() != rows,
+        Refusal::Lengths,
+    )
 }
 
-// Whether TS, NU or the span is out of range.
-fn is_bad_span(ts: u64, nu: u64, span: u64) -> bool
-    ensures { result ≡ bad_span ts nu span }
+// Judges TS, NU and the span: refusal 3.
+fn judge_span(table: Table) -> Judgement
+    ensures { judgement_of result ≡ table_clock_check (table_of table.entry) }
 {
-    if judging::is_bad_clock(ts, nu) {
-        return true;
-    }
-    SPAN_MAX < span
+    refuse_if(
+        judging::is_bad_clock(table.ts, table.nu) || SPAN_MAX < table.span,
+        Refusal::Clock,
+    )
 }
 
 // Judges the buffers and fullnesses of as many rows as both lists have: refusal 7.
@@ -101,55 +104,48 @@ fn judge_rows(buffers: &[u64], fullnesses: &[u64]) -> Judgement
     requires { length fullnesses.now ≡ length buffers.now }
     ensures { judgement_of result ≡ first_fault refusal.bucket (bad_row buffers.now fullnesses.now) (length buffers.now) }
 {
-    let bad = first_bad_row(buffers, fullnesses);
-    judgement::refuse_if(bad < buffers.len(), BUCKET, bad)
+    for (i, &buffer) in buffers.iter().enumerate() {
+        if judging::is_bad_bucket(buffer, fullnesses[i]) {
+            return Err(Refusal::Bucket(i));
+        }
+    }
+    Ok(())
 }
 
 // Judges a table, its clock and span, and the rate asked: refusals 2, 3, 6 and 7.
-fn judge(
-    rates: &[u64],
-    buffers: &[u64],
-    fullnesses: &[u64],
-    ts: u64,
-    nu: u64,
-    span: u64,
-    rate: u64,
-) -> Judgement
-    ensures { judgement_of result ≡ lowest (lookup_faults (table rates.now buffers.now fullnesses.now ts nu span) rate) }
+fn judge(table: Table, rate: u64) -> Judgement
+    ensures { judgement_of result ≡ lowest (lookup_faults (table_of table.entry) rate) }
 {
-    let n = rates.len();
-    if buffers.len() != n {
-        return Judgement::Refused(LENGTHS, 0);
-    }
-    if fullnesses.len() != n {
-        return Judgement::Refused(LENGTHS, 0);
-    }
-    let rows = judgement::lower(judging::judge_rate(rate), judge_rows(buffers, fullnesses));
-    let rated = judgement::lower(judging::judge_rates(rates), rows);
-    judgement::lower(
-        judgement::refuse_if(is_bad_span(ts, nu, span), CLOCK, 0),
-        rated,
-    )
+    judge_lengths(table)?;
+    judge_span(table)?;
+    judging::judge_rates(table.rates)?;
+    judging::judge_rate(rate)?;
+    judge_rows(table.buffers, table.fullnesses)
 }
 
 // Buffer and start fullness for any rate: refusals 2, 3, 6 and 7.
-pub fn look_up(
-    rates: &[u64],
-    buffers: &[u64],
-    fullnesses: &[u64],
-    ts: u64,
-    nu: u64,
-    span: u64,
-    rate: u64,
-) -> Found
-    ensures { LookupPromise (table rates.now buffers.now fullnesses.now ts nu span) rate result }
+pub fn look_up(table: Table, rate: u64) -> Result<Bucket, Refusal>
+    ensures { LookupPromise (table_of table.entry) rate result }
 {
-    let judged = judge(rates, buffers, fullnesses, ts, nu, span, rate);
-    if let Judgement::Refused(number, place) = judged {
-        return Found::Refused(number, place);
-    }
-    let row = rows_up_to(rates, rate);
-    let buffer = figure(rates, buffers, ts, nu, span, rate, row);
-    let fullness = figure(rates, fullnesses, ts, nu, span, rate, row);
-    Found::Bucket(buffer, fullness)
+    judge(table, rate)?;
+    let Table {
+        rates,
+        buffers,
+        fullnesses,
+        ts,
+        nu,
+        span,
+    } = table;
+    let axis = Axis {
+        rates,
+        ts,
+        nu,
+        span,
+    };
+    let row = axis.row_at(rate);
+    Ok(Bucket {
+        rate,
+        buffer: axis.figure(buffers, rate, row),
+        fullness: axis.figure(fullnesses, rate, row),
+    })
 }

@@ -1,19 +1,19 @@
--- `lookup::look_up` meets its contract: a refusal is the judgement's, and each figure is the definition's by `figure`'s contract.
+-- `lookup::look_up` meets its contract: a table that passes is ready for both figures.
 -- Assumes nothing.
-use mathlib.Core.Path.{sym, ap, ◌∙◌}
-use Rattle.model.specs.Lookup.{table}
-use Rattle.judgement.specs.Outcome.{judgement_of}
-use Rattle.lookup.proofs.JudgeLaws.{lookup-rate-some, buffers-ready, fullnesses-ready}
+use Rattle.judgement.proofs.Steps.{passes}
+use Rattle.lookup.specs.Given.{table_of}
+use Rattle.lookup.proofs.JudgeLaws.{lookup-rate-some, axis-ready, buffers-ready, fullnesses-ready}
 use Rattle.lookup.proofs.look_up.Goals as goal
 
-pub figure-buffer-requires : goal.figure-buffer-requires
-figure-buffer-requires c =
-    let w = table c.args.rates.now c.args.buffers.now c.args.fullnesses.now c.args.ts c.args.nu c.args.span in
-    let passes = sym c.judge-judged.ensures ∙ ap judgement_of c.in_default.is in
-    (buffers-ready w c.args.rate passes, c.rows_up_to-row.ensures.0, c.rows_up_to-row.ensures.1, lookup-rate-some w c.args.rate passes)
+pub invariant_of-axis : goal.invariant_of-axis
+invariant_of-axis c = record { ready = axis-ready (table_of c.args.table) c.args.rate (passes _ _ c.judge.ensures c.in_ok-judge.was) }
 
-pub figure-fullness-requires : goal.figure-fullness-requires
-figure-fullness-requires c =
-    let w = table c.args.rates.now c.args.buffers.now c.args.fullnesses.now c.args.ts c.args.nu c.args.span in
-    let passes = sym c.judge-judged.ensures ∙ ap judgement_of c.in_default.is in
-    (fullnesses-ready w c.args.rate passes, c.rows_up_to-row.ensures.0, c.rows_up_to-row.ensures.1, lookup-rate-some w c.args.rate passes)
+pub figure-requires : goal.figure-requires
+figure-requires c =
+    let ok = passes _ _ c.judge.ensures c.in_ok-judge.was in
+    (buffers-ready (table_of c.args.table) c.args.rate ok, c.row_at-row.ensures, lookup-rate-some (table_of c.args.table) c.args.rate ok)
+
+pub figure-requires-2 : goal.figure-requires-2
+figure-requires-2 c =
+    let ok = passes _ _ c.judge.ensures c.in_ok-judge.was in
+    (fullnesses-ready (table_of c.args.table) c.args.rate ok, c.row_at-row.ensures, lookup-rate-some (table_of c.args.table) c.args.rate ok)
