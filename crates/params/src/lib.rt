@@ -20,7 +20,7 @@ pub const VALUES_MAX: usize = 3 + 3 * CPB_CNT_MAX + 4;
 
 // A parameter record: its count of rows and that many rows, by the standard's names. cbr_flag is 0 or 1.
 #[repr(C)]
-#[derive(Clone, Copy)]
+#[derive(Clone, Copy, Debug, Default, PartialEq, Eq)]
 pub struct Params {
     pub cpb_cnt: usize,
     pub bit_rate_scale: u64,
