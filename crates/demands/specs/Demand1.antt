@@ -4,7 +4,7 @@
 --     Demand1Record, Demand1Length, Demand1ParamsRow, Demand1Read, Demand1Write, Demand1Row, Demand1Open, Demand1Print    so does each exported operation, whatever it is handed
 --     Demand1Line    a refusal line is said with the number and place with which the planner's own `open_sheet` refuses that sheet
 -- Assumes nothing.
-use Rattle.std.specs.Prelude.{ℕ, ◌≤◌, ◌≡◌, List, Float}
+use Rattle.std.specs.Prelude.{ℕ, ◌≤◌, ◌≡◌, List, Float, Result, Ok}
 use Rattle.terms.specs.Answers.{Answer, given, refused}
 use Rattle.model.specs.Recording.{Recording}
 use Rattle.model.specs.Arrival.{Bucket}
@@ -16,13 +16,13 @@ use Rattle.row_verdict.specs.RowVerdict.{row_verdict_outcome}
 use Rattle.layout.specs.Sheet.{open_outcome, print_outcome}
 use Rattle.params.specs.Outcome.{params_of}
 use Rattle.params.specs.declared.Params.{Params}
-use Rattle.judgement.specs.declared.Judgement.TheVariants as judgement
+use Rattle.judgement.specs.Outcome.{judgement_of}
+use Rattle.judgement.specs.declared.Refusal.{Refusal}
 use Rattle.sheet.specs.Promises.{OpenPromise}
-use Rattle.sheet.specs.declared.Opened.{Opened}
-use Rattle.sheet.specs.declared.Opened.TheVariants as opened
+use Rattle.sheet.specs.Outcome.{opened_of}
+use Rattle.sheet.specs.declared.Head.{Head}
 use Rattle.print.specs.Promises.{PrintPromise}
 use Rattle.print.specs.declared.Output.{Output}
-use Rattle.print.specs.declared.Printed.TheVariants as printed
 use Rattle.answers.specs.declared.recordings.PlannerJudgement.{PlannerJudgement}
 use Rattle.answers.specs.declared.recordings.PlannerVerdict.{PlannerVerdict}
 use Rattle.answers.specs.declared.figures.PlannerBucket.{PlannerBucket}
@@ -127,6 +127,6 @@ Demand1Print =
 -- whatever room the opening has
 abbrev pub Demand1Line : Type 0
 Demand1Line =
-    (bytes before text l m o sizes ticks rates : List ℕ) (output : Output) (n i : ℕ) (a : Opened)
-    → PrintPromise bytes before (printed.Text output) text → output.judged ≡ judgement.Refused n i
-    → OpenPromise bytes l m o a sizes ticks rates → a ≡ opened.Refused n i
+    (bytes before text l m o sizes ticks rates : List ℕ) (output : Output) (n i : ℕ) (a : Result Head Refusal)
+    → PrintPromise bytes before (Ok output) text → judgement_of output.judged ≡ refused n i
+    → OpenPromise bytes l m o a sizes ticks rates → opened_of a ≡ refused n i

@@ -1,30 +1,38 @@
 -- A bucket at its rate and a limit, judged; and what passes is held exactly by a double. Definitions: model/specs/Faults.antt,
 -- model/specs/Panel.antt.
---     panel-both      a bucket and a limit, judged each by itself and taken together
---     seconds-exact   a rate and a bucket that pass are at most 2^53
---     panel-exact     and so are those that pass with a limit
+--     seconds-exact    a rate and a bucket that pass are at most 2^53
+--     panel-first      a bucket is judged first, then a limit
+--     panel-refused    a reading that is refused
+--     panel-given      and one that is not, from the wait that was computed
 -- Assumes nothing.
 use Prim.Native.Nat.{◌^◌, ◌≤◌}
 use native.Mathlib.Nat.{le_trans}
-use mathlib.Core.Path.{◌≡◌, sym, ap₂, ◌∙◌}
+use mathlib.Core.Path.{◌≡◌, sym, ap, ◌∙◌}
+use mathlib.Core.Bool.{Bool, cond}
 use mathlib.Core.List.{[], ◌∷◌}
 use lib.Dec.{lit≤}
-use lib.Ieee.{Float}
+use lib.Ieee.{Float, le}
+use Rattle.std.specs.Prelude.{Result}
+use Rattle.std.specs.Result.{IsErrAnd}
 use Rattle.rules.specs.Limits.{rate_max, bucket_max}
 use Rattle.rules.specs.Refusals as refusal
-use Rattle.terms.specs.Answers.{Judgement, passed, refuse_if, lower, lowest}
+use Rattle.terms.specs.Answers.{Judgement, given, passed, refuse_if, lowest, first, answer_with}
 use Rattle.terms.proofs.NumbersLaws.{or-false, outside-false}
-use Rattle.terms.proofs.AnswersLaws.{refuse_if-passed, lowest-more, lowest-each, lowest-passed}
+use Rattle.terms.proofs.AnswersLaws.{refuse_if-passed, none, test, skip, answer-given, lowest-append, lowest-passed}
 use Rattle.model.specs.Arrival.{Bucket}
 use Rattle.model.specs.Faults.{seconds_faults}
-use Rattle.model.specs.Panel.{bad_limit, panel_faults}
+use Rattle.model.specs.Panel as panel
+use Rattle.model.specs.Panel.{seconds_of, bad_limit, within, over, panel_faults, panel_outcome}
+use Rattle.model.proofs.FaultsLaws.{seconds_faults-ascending}
+use Rattle.judgement.specs.Outcome.{judgement_of}
+use Rattle.judgement.specs.declared.Refusal.{Refusal}
+use Rattle.judgement.proofs.Steps.{stopped, last}
+use Rattle.panel.specs.Outcome.{reading_of}
+use Rattle.panel.specs.declared.Reading.{Reading}
 
 module _ (u : Bucket) where
   -- each figure is held exactly by a double
-  abbrev Exact : Type 0
-  Exact = (u.rate ≤ 2 ^ 53) × (u.buffer ≤ 2 ^ 53) × (u.fullness ≤ 2 ^ 53)
-
-  pub seconds-exact : lowest (seconds_faults u) ≡ passed → Exact
+  pub seconds-exact : lowest (seconds_faults u) ≡ passed → (u.rate ≤ 2 ^ 53) × (u.buffer ≤ 2 ^ 53) × (u.fullness ≤ 2 ^ 53)
   seconds-exact pass =
       let each = (lowest-passed (seconds_faults u)).0 pass in
       let (inside, full) = (or-false _ _).0 ((refuse_if-passed _ refusal.bucket 0).0 each.1.0) in
@@ -35,8 +43,20 @@ module _ (u : Bucket) where
       )
 
   module _ (limit : Float) where
-    pub panel-both : {a b : Judgement} → a ≡ lowest (seconds_faults u) → b ≡ refuse_if (bad_limit limit) refusal.limit 0 → lower a b ≡ lowest (panel_faults u limit)
-    panel-both ea eb = ap₂ lower ea eb ∙ sym (lowest-more (seconds_faults u) (refuse_if (bad_limit limit) refusal.limit 0))
+    pub panel-first : lowest (panel_faults u limit) ≡ first (lowest (seconds_faults u) ∷ refuse_if (bad_limit limit) refusal.limit 0 ∷ [])
+    unfolding first
+    panel-first =
+        lowest-append (seconds_faults u) (refuse_if (bad_limit limit) refusal.limit 0 ∷ []) (seconds_faults-ascending u none)
+        (seconds_faults-ascending u (test refusal.limit _ 0 tt none))
 
-    pub panel-exact : lowest (panel_faults u limit) ≡ passed → Exact
-    panel-exact pass = seconds-exact (lowest-each (seconds_faults u) (refuse_if (bad_limit limit) refusal.limit 0 ∷ []) pass).0
+    pub panel-refused : (out : Result Reading Refusal) (e : Refusal) → IsErrAnd out (λ y. y ≡ e)
+        → judgement_of out ≡ first (lowest (seconds_faults u) ∷ refuse_if (bad_limit limit) refusal.limit 0 ∷ [])
+        → reading_of out ≡ panel_outcome u limit
+    panel-refused out e left says =
+        let is = stopped out e left in
+        ap reading_of is ∙ ap (λ (j : Judgement). answer_with j (panel.reading_of u limit)) (sym (ap judgement_of is) ∙ says ∙ sym panel-first)
+
+    pub panel-given : (wait : Float) {b : Bool} → lowest (seconds_faults u) ≡ passed → refuse_if (bad_limit limit) refusal.limit 0 ≡ passed
+        → wait ≡ (seconds_of u).wait → le wait limit ≡ b → given (cond b (within wait) (over wait limit)) ≡ panel_outcome u limit
+    panel-given wait sound finite e h =
+        sym (answer-given _ (panel-first ∙ skip _ sound ∙ last _ ∙ finite) ∙ ap given (rw (← e, h)))

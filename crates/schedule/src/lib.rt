@@ -2,120 +2,72 @@
 
 #![tactic(auto)]
 
-ghost use Rattle.std.specs.Prelude.{◌≡◌};
-ghost use Rattle.terms.specs.Answers.{given, lowest};
-ghost use Rattle.model.specs.Recording.{recording};
-ghost use Rattle.model.specs.Arrival.{bucket};
+ghost use Rattle.std.specs.Prelude.{◌≡◌, ◌≤◌, IfOk};
+ghost use Rattle.rules.specs.Limits.{rate_max, bucket_max};
+ghost use Rattle.terms.specs.Answers.{lowest};
 ghost use Rattle.model.specs.Faults.{verdict_faults};
 ghost use Rattle.judgement.specs.Outcome.{judgement_of};
+ghost use Rattle.recording.specs.Given.{recording_of, bucket_of};
 ghost use Rattle.arrivals.specs.Seen.{seen_of};
-ghost use Rattle.schedule.specs.Outcome.{answer_of};
+ghost use Rattle.schedule.specs.Outcome.{verdict_of};
 ghost use Rattle.schedule.specs.Promises.{VerdictPromise, SchedulePromise};
 
-use arrivals::Seen;
-use judgement::Judgement;
+use arrivals::Late;
+use judgement::Refusal;
+use recording::judged::Judged;
+use recording::{Bucket, Recording};
 
-// The recording holds; or the first late picture and its units; or a refusal, its number and its place.
-#[derive(Drop)]
+// The recording holds; or the first late picture and its units.
+// Kept, in place of an Option: `Holds` is document 01's own word.
+#[derive(Clone, Copy, Debug, PartialEq, Eq)]
 pub enum Verdict {
     Holds,
     Late(usize, u64),
-    Refused(u8, usize),
 }
 
-// What was seen, as a verdict.
-fn verdict_of(s: Seen) -> Verdict
-    ensures { answer_of result ≡ given (seen_of s) }
-{
-    if s.late == 0 {
-        return Verdict::Holds;
+impl From<Option<Late>> for Verdict {
+    ghost from_gives = { λ late v. verdict_of v ≡ seen_of late };
+
+    fn from(late: Option<Late>) -> Verdict {
+        match late {
+            None => Verdict::Holds,
+            Some(late) => Verdict::Late(late.picture, late.units),
+        }
     }
-    Verdict::Late(s.picture, s.late)
 }
 
-// Judges a recording, its clock, a rate and a bucket: refusals 1 to 7.
-fn judge(
-    sizes: &[u64],
-    ticks: &[u64],
-    ts: u64,
-    nu: u64,
-    rate: u64,
-    buffer: u64,
-    fullness: u64,
-) -> Judgement
-    ensures { judgement_of result ≡ lowest (verdict_faults (recording sizes.now ticks.now ts nu) (bucket rate buffer fullness)) }
+// The recording, judged with its clock, a rate and a bucket: refusals 1 to 7.
+fn judged<'a>(recording: Recording<'a>, bucket: Bucket) -> Result<Judged<'a>, Refusal>
+    ensures judges { judgement_of result ≡ lowest (verdict_faults (recording_of recording.entry) (bucket_of bucket)) }
+    ensures same { IfOk result (λ judged. recording_of judged.recording ≡ recording_of recording.entry) }
+    ensures fits { IfOk result (λ _. (bucket.rate ≤ rate_max) × (bucket.buffer ≤ bucket_max) × (bucket.fullness ≤ bucket.buffer)) }
 {
-    judgement::lower(
-        judging::judge(sizes, ticks, ts, nu),
-        judging::judge_bucket(rate, buffer, fullness),
-    )
+    let judged = judging::judged(recording)?;
+    judging::judge_bucket(bucket)?;
+    Ok(judged)
 }
 
 // The verdict of R, B and F: refusals 1 to 7.
-pub fn bucket_verdict(
-    sizes: &[u64],
-    ticks: &[u64],
-    ts: u64,
-    nu: u64,
-    rate: u64,
-    buffer: u64,
-    fullness: u64,
-) -> Verdict
-    ensures { VerdictPromise (recording sizes.now ticks.now ts nu) (bucket rate buffer fullness) result }
+pub fn bucket_verdict(recording: Recording, bucket: Bucket) -> Result<Verdict, Refusal>
+    ensures { VerdictPromise (recording_of recording.entry) (bucket_of bucket) result }
 {
-    let judged = judge(sizes, ticks, ts, nu, rate, buffer, fullness);
-    if let Judgement::Refused(number, place) = judged {
-        return Verdict::Refused(number, place);
-    }
+    let judged = judged(recording, bucket)?;
     // Nobody asked for the schedule, so it is stored nowhere.
-    let mut starts = [0u64; 0];
-    let mut ends = [0u64; 0];
-    let seen = arrivals::run(
-        sizes,
-        ticks,
-        ts,
-        nu,
-        rate,
-        buffer,
-        fullness,
-        &mut starts,
-        &mut ends,
-    );
-    verdict_of(seen)
+    Ok(Verdict::from(arrivals::run(judged, bucket, &mut [], &mut [])))
 }
 
 // Writes the schedule to two lent lists from entry `at` on, late or not, and answers the verdict: refusals 1 to 8.
 pub fn schedule(
-    sizes: &[u64],
-    ticks: &[u64],
-    ts: u64,
-    nu: u64,
-    rate: u64,
-    buffer: u64,
-    fullness: u64,
+    recording: Recording,
+    bucket: Bucket,
     at: usize,
     starts: &mut [u64],
     ends: &mut [u64],
-) -> Verdict
-    ensures { SchedulePromise (recording sizes.now ticks.now ts nu) (bucket rate buffer fullness) at starts.old ends.old result starts.new ends.new }
+) -> Result<Verdict, Refusal>
+    ensures { SchedulePromise (recording_of recording.entry) (bucket_of bucket) at starts.old ends.old result starts.new ends.new }
 {
-    let judged = judgement::lower(
-        judge(sizes, ticks, ts, nu, rate, buffer, fullness),
-        judgement::judge_rooms(starts.len(), ends.len(), at, sizes.len()),
-    );
-    if let Judgement::Refused(number, place) = judged {
-        return Verdict::Refused(number, place);
-    }
-    let seen = arrivals::run(
-        sizes,
-        ticks,
-        ts,
-        nu,
-        rate,
-        buffer,
-        fullness,
-        &mut starts[at..],
-        &mut ends[at..],
-    );
-    verdict_of(seen)
+    let judged = judged(recording, bucket)?;
+    judgement::judge_rooms(starts.len(), ends.len(), at, recording.sizes.len())?;
+    let seen = arrivals::run(judged, bucket, &mut starts[at..], &mut ends[at..]);
+    Ok(Verdict::from(seen))
 }
