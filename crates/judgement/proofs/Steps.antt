@@ -6,13 +6,14 @@
 --     passes          and of a step that passes it passes
 --     stop-answer     as `stop`, of an answer with a value
 --     on_ok           what follows from passing holds where nothing is refused
+--     judged_by       the judgement in an answer is its outcome's
 --     last            the last judgement left is the outcome
 -- Assumes nothing.
 use mathlib.Core.Path.{◌≡◌, refl, sym, ap, ◌∙◌}
 use mathlib.Core.List.{List, [], ◌∷◌}
 use Rattle.std.specs.Prelude.{Result, Ok, Err}
 use Rattle.std.specs.Result.{IsErrAnd, OnOk}
-use Rattle.terms.specs.Answers.{Judgement, given, refused, passed, first, answer_with}
+use Rattle.terms.specs.Answers.{Answer, Judgement, given, refused, passed, first, answer_with}
 use Rattle.terms.proofs.AnswersLaws.{skip, here, answer-refused}
 use Rattle.judgement.specs.Outcome.{number_of, place_of, answer_by, judgement_of}
 use Rattle.judgement.specs.declared.Refusal.{Refusal}
@@ -44,6 +45,24 @@ stop-answer f r out e js v says was left =
 pub on_ok : {A P : Type 0} (r : Result A Refusal) {j : Judgement} → judgement_of r ≡ j → (j ≡ passed → P) → OnOk r P
 on_ok (Ok x) says gives = gives (sym says)
 on_ok (Err e) says gives = tt
+
+-- an answer without its value
+erased : {B : Type 0} → Answer B → Judgement
+erased (given b) = passed
+erased (refused n i) = refused n i
+
+erased-result : {A B : Type 0} (f : A → B) (r : Result A Refusal) → erased (answer_by f r) ≡ judgement_of r
+unfolding erased
+erased-result f (Ok x) = refl
+erased-result f (Err e) = refl
+
+erased-outcome : {B : Type 0} (j : Judgement) (v : B) → erased (answer_with j v) ≡ j
+unfolding erased
+erased-outcome (given tt) v = refl
+erased-outcome (refused n i) v = refl
+
+pub judged_by : {A B : Type 0} (f : A → B) (r : Result A Refusal) (j : Judgement) (v : B) → answer_by f r ≡ answer_with j v → judgement_of r ≡ j
+judged_by f r j v e = sym (erased-result f r) ∙ ap erased e ∙ erased-outcome j v
 
 pub last : (j : Judgement) → first (j ∷ []) ≡ j
 unfolding first

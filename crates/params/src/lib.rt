@@ -3,7 +3,7 @@
 
 #![tactic(auto)]
 
-ghost use Rattle.std.specs.Prelude.{◌≡◌, ◌+◌, ◌-◌, ◌*◌, ◌≤◌, ◌<◌, get_or};
+ghost use Rattle.std.specs.Prelude.{◌≡◌, ◌+◌, ◌-◌, ◌*◌, ◌≤◌, ◌<◌, get_or, OnOk};
 ghost use Rattle.rules.specs.Limits.{cpb_cnt_max};
 ghost use Rattle.coding.specs.Fields as fields;
 ghost use Rattle.coding.specs.Fields.{fields_of, cpb_cnt_minus1, place_of};
@@ -158,7 +158,8 @@ pub fn value_at(params: Params, f: usize) -> u64
 
 // Judges a record: every fault is 10, the first in bit order at its row or 0.
 pub fn judge_params(params: Params) -> Judgement
-    ensures { RecordPromise params result }
+    ensures judges { RecordPromise params result }
+    ensures counted { OnOk result ((1 ≤ params.cpb_cnt) × (params.cpb_cnt ≤ cpb_cnt_max)) }
 {
     let n = params.cpb_cnt;
     if n == 0 || CPB_CNT_MAX < n {

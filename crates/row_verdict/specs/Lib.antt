@@ -1,4 +1,3 @@
 pub mod RowVerdict
-pub mod Rows
 pub mod Outcome
 pub mod Promises

@@ -1,11 +1,16 @@
 -- What this crate's answer says, in document 01's numbers, places and values.
---     params_row_of    rate and size of a row, or a refusal
+--     row_of           rate and size of a row
+--     params_row_of    the same, or a refusal
 -- Assumes nothing.
-use Rattle.terms.specs.Answers.{Answer, given, refused}
-use Rattle.coding.specs.Params.{Row}
-use Rattle.row_verdict.specs.declared.ParamsRow.{ParamsRow}
-use Rattle.row_verdict.specs.declared.ParamsRow.TheVariants as params-row
+use Rattle.std.specs.Prelude.{Result}
+use Rattle.terms.specs.Answers.{Answer}
+use Rattle.coding.specs.Params as params
+use Rattle.judgement.specs.Outcome.{answer_by}
+use Rattle.judgement.specs.declared.Refusal.{Refusal}
+use Rattle.row_verdict.specs.declared.Row.{Row}
 
-abbrev pub params_row_of : ParamsRow → Answer Row
-params_row_of (params-row.Row rate size) = given (record { rate = rate; size = size })
-params_row_of (params-row.Refused number place) = refused number place
+abbrev pub row_of : Row → params.Row
+row_of t = record { rate = t.rate; size = t.size }
+
+abbrev pub params_row_of : Result Row Refusal → Answer params.Row
+params_row_of r = answer_by row_of r

@@ -3,79 +3,66 @@
 
 #![tactic(auto)]
 
-ghost use Rattle.std.specs.Prelude.{◌≡◌, ◌+◌, ◌*◌, ◌^◌, get_or};
-ghost use Rattle.model.specs.Recording.{recording};
-ghost use Rattle.row_verdict.specs.Rows.{Scaled};
+ghost use Rattle.std.specs.Prelude.{◌≡◌, ◌+◌, ◌*◌, ◌^◌, ◌<◌, OnOk};
+ghost use Rattle.rules.specs.Limits.{cpb_cnt_max};
+ghost use Rattle.rules.specs.Width.{word_bits, Word};
+ghost use Rattle.recording.specs.Given.{recording_of};
 ghost use Rattle.row_verdict.specs.Promises.{ParamsRowPromise, RowPromise};
 
-use judgement::Judgement;
+use judgement::{Refusal, refuse_if};
 use params::Params;
-use rules::{CONSTANT, CPB_CNT_MAX, RATE, RATE_SHIFT, SIZE_SHIFT};
+use recording::{Bucket, Recording};
+use rules::{RATE_SHIFT, SIZE_SHIFT};
 use schedule::Verdict;
 
-// Rate and size of a row; or a refusal, its number and its place.
-#[derive(Drop)]
-pub enum ParamsRow {
-    Row(u64, u64),
-    Refused(u8, usize),
+// Rate and size of a row.
+#[derive(Clone, Copy, Debug, PartialEq, Eq)]
+pub struct Row {
+    pub rate: u64,
+    pub size: u64,
 }
 
 // (value + 1) x 2^(shift + scale) for the value of a row: its rate or its size.
-fn scaled(values: [u64; CPB_CNT_MAX], row: usize, shift: u64, scale: u64) -> u64
-    requires { Scaled row shift (get_or values row 0) scale }
-    ensures { result ≡ (get_or values row 0 + 1) * 2 ^ (shift + scale) }
+fn scaled(value: u64, shift: u64, scale: u64) -> u64
+    requires { (shift + scale < word_bits) × Word ((value + 1) * 2 ^ (shift + scale)) }
+    ensures { result ≡ (value + 1) * 2 ^ (shift + scale) }
 {
-    (values[row] + 1) * (1 << (shift + scale))
+    (value + 1) * (1 << (shift + scale))
 }
 
 // Rate and size of a row: the record judged first, then the row number.
-pub fn params_row(params: Params, row: usize) -> ParamsRow
-    ensures { ParamsRowPromise params row result }
+pub fn params_row(params: Params, row: usize) -> Result<Row, Refusal>
+    ensures figures { ParamsRowPromise params row result }
+    ensures among { OnOk result (row < cpb_cnt_max) }
 {
-    let judged = params::judge_params(params);
-    if let Judgement::Refused(number, place) = judged {
-        return ParamsRow::Refused(number, place);
+    params::judge_params(params)?;
+    if params.cpb_cnt <= row {
+        return Err(Refusal::Rate(0));
     }
-    if row < params.cpb_cnt {
-        let rates = params.bit_rate_value_minus1;
-        let rate = scaled(rates, row, RATE_SHIFT, params.bit_rate_scale);
-        let sizes = params.cpb_size_value_minus1;
-        let size = scaled(sizes, row, SIZE_SHIFT, params.cpb_size_scale);
-        return ParamsRow::Row(rate, size);
-    }
-    ParamsRow::Refused(RATE, 0)
+    let rate = params.bit_rate_value_minus1[row];
+    let size = params.cpb_size_value_minus1[row];
+    Ok(Row {
+        rate: scaled(rate, RATE_SHIFT, params.bit_rate_scale),
+        size: scaled(size, SIZE_SHIFT, params.cpb_size_scale),
+    })
 }
 
 // The verdict of a start fullness and a row: the record judged first, then the row number, then the lowest of the rest.
 pub fn row_verdict(
-    sizes: &[u64],
-    ticks: &[u64],
-    ts: u64,
-    nu: u64,
+    recording: Recording,
     params: Params,
     row: usize,
     fullness: u64,
-) -> Verdict
-    ensures { RowPromise (recording sizes.now ticks.now ts nu) params row fullness result }
+) -> Result<Verdict, Refusal>
+    ensures { RowPromise (recording_of recording.entry) params row fullness result }
 {
-    let judged = params::judge_params(params);
-    if let Judgement::Refused(number, place) = judged {
-        return Verdict::Refused(number, place);
-    }
-    if params.cpb_cnt <= row {
-        return Verdict::Refused(RATE, 0);
-    }
-    let rates = params.bit_rate_value_minus1;
-    let rate = scaled(rates, row, RATE_SHIFT, params.bit_rate_scale);
-    let buffers = params.cpb_size_value_minus1;
-    let buffer = scaled(buffers, row, SIZE_SHIFT, params.cpb_size_scale);
-    let verdict = schedule::bucket_verdict(sizes, ticks, ts, nu, rate, buffer, fullness);
-    if let Verdict::Refused(number, place) = verdict {
-        return Verdict::Refused(number, place);
-    }
-    let flags = params.cbr_flag;
-    if flags[row] == 1 {
-        return Verdict::Refused(CONSTANT, row);
-    }
-    verdict
+    let Row { rate, size } = params_row(params, row)?;
+    let bucket = Bucket {
+        rate,
+        buffer: size,
+        fullness,
+    };
+    let verdict = schedule::bucket_verdict(recording, bucket)?;
+    refuse_if(params.cbr_flag[row] == 1, Refusal::Constant(row))?;
+    Ok(verdict)
 }

@@ -62,14 +62,14 @@ judged-none : (p : Params) (f : ℕ) → 3 + 3 * p.cpb_cnt + 4 ≤ f → judged_
 unfolding fields_judged
 judged-none p f h = rw (drop_of_length-le (fields_of p.cpb_cnt) {i = f} (omega (arith, fields_of-length p.cpb_cnt)))
 
-pub returns-then-n-eq0 : goal.returns-then-n-eq0
-returns-then-n-eq0 c = sym (count-refused (params_of c.args.params) (grind (arith, nat_tests, c.then-n-eq0.either)))
+pub returns-then-n-eq0-clause-judges : goal.returns-then-n-eq0-clause-judges
+returns-then-n-eq0-clause-judges c = sym (count-refused (params_of c.args.params) (grind (arith, nat_tests, c.then-n-eq0.either)))
 
 pub loop-f-init : goal.loop-f-init
 loop-f-init c = sym (count-judged (params_of c.args.params) (search rules) (search rules))
 
-pub returns-then-not-keeps : goal.returns-then-not-keeps
-returns-then-not-keeps c =
+pub returns-then-not-keeps-clause-judges : goal.returns-then-not-keeps-clause-judges
+returns-then-not-keeps-clause-judges c =
     let next = judged-next (params_of c.args.params) _ _ _ _ _ false c.loop-f-test.true c.row_before.ensures c.field_at-field.ensures c.value_at-before.ensures c.value_at.ensures c.if-not-keeps.ensures in
     ap (refused refusal.field) c.place.ensures ∙ sym next ∙ c.loop-f.invariant
 
@@ -78,5 +78,5 @@ loop-f-preserved c =
     let next = judged-next (params_of c.args.params) _ _ _ _ _ true c.loop-f-test.true c.row_before.ensures c.field_at-field.ensures c.value_at-before.ensures c.value_at.ensures c.if-not-keeps.ensures in
     sym next ∙ c.loop-f.invariant
 
-pub returns : goal.returns
-returns c = sym (judged-none (params_of c.args.params) c.loop-f.f c.loop-f-test.false) ∙ c.loop-f.invariant
+pub returns-clause-judges : goal.returns-clause-judges
+returns-clause-judges c = sym (judged-none (params_of c.args.params) c.loop-f.f c.loop-f-test.false) ∙ c.loop-f.invariant

@@ -1,89 +1,63 @@
 -- `row_verdict::row_verdict` meets its contract: the refusal of the record, of the row's number, of `bucket_verdict` or of a constant rate, in
 -- this order, or else the bucket's verdict (RowLaws). Assumes nothing.
-use Prim.Native.Nat.{ℕ}
-use native.Mathlib.Omega.{arith}
-use mathlib.Core.Path.{◌≡◌, refl, sym, ap, ◌∙◌}
-use Rattle.model.specs.Recording.{Recording, recording}
+use mathlib.Core.Path.{sym, ap, ◌∙◌}
+use Rattle.terms.proofs.AnswersLaws.{answer-given}
+use Rattle.model.specs.Recording.{Recording}
 use Rattle.model.specs.Arrival as arrival
-use Rattle.terms.specs.Answers.{given}
 use Rattle.model.specs.Outcomes.{verdict_outcome}
-use Rattle.row_verdict.specs.RowVerdict.{row_bucket}
 use Rattle.params.specs.Outcome.{params_of}
-use Rattle.judgement.specs.Outcome.{judgement_of}
-use Rattle.schedule.specs.Outcome.{answer_of}
-use Rattle.schedule.specs.declared.Verdict.{Verdict}
-use Rattle.schedule.specs.declared.Verdict.TheVariants as verdict
-use Rattle.row_verdict.proofs.RowLaws.{record-refused, row-none, row-refused, row-constant, row-given, rate-scaled, size-scaled}
+use Rattle.judgement.proofs.Steps.{pass, passes, stop-answer, judged_by, last}
+use Rattle.recording.specs.Given.{recording_of}
+use Rattle.schedule.specs.Outcome.{verdict_of, answer_of}
+use Rattle.row_verdict.specs.Outcome.{row_of}
+use Rattle.row_verdict.specs.RowVerdict.{row_bucket}
+use Rattle.row_verdict.proofs.RowLaws.{row-given, row-first}
 use Rattle.row_verdict.proofs.row_verdict.Goals as goal
 
--- a verdict that is not a refusal is a value
-told : (r : Verdict) → ((number place : ℕ) → r ≡ verdict.Refused number place → ⊥) → (v : arrival.Verdict) × (answer_of r ≡ given v)
-told verdict.Holds h = (arrival.holds, refl)
-told (verdict.Late picture units) h = (arrival.late picture units, refl)
-told (verdict.Refused number place) h = absurd (h number place refl)
-
-pub returns-in-Refused : goal.returns-in-Refused
-returns-in-Refused c =
-    let k : Recording = recording c.args.sizes.now c.args.ticks.now c.args.ts c.args.nu in
+pub returns-in_err-rate : goal.returns-in_err-rate
+returns-in_err-rate c =
+    let k : Recording = recording_of c.args.recording in
     let p = params_of c.args.params in
-    sym (record-refused k p c.args.row c.args.fullness (sym c.judge_params-judged.ensures ∙ ap judgement_of c.in-Refused.is))
+    rw (row-first p c.args.row k c.args.fullness)
+    (stop-answer verdict_of _ _ _ _ _ (judged_by row_of _ _ _ c.params_row.ensures.figures) c.in_err-rate.was c.from_residual.ensures.1)
 
-pub returns-then-params-row : goal.returns-then-params-row
-returns-then-params-row c =
-    let k : Recording = recording c.args.sizes.now c.args.ticks.now c.args.ts c.args.nu in
+pub returns-in_err-verdict : goal.returns-in_err-verdict
+returns-in_err-verdict c =
+    let k : Recording = recording_of c.args.recording in
     let p = params_of c.args.params in
-    let passes = sym c.judge_params-judged.ensures ∙ ap judgement_of c.in_default.is in
-    sym (row-none k p c.args.row c.args.fullness passes c.if-params-row.true)
+    let f = c.args.fullness in
+    let says = c.bucket_verdict.ensures ∙ ap (verdict_outcome k) (row-given p c.args.row _ f c.in_ok-rate.ensures.figures) in
+    rw (row-first p c.args.row k f, pass _ _ _ (judged_by row_of _ _ _ c.params_row.ensures.figures) c.in_ok-rate.was)
+    (stop-answer verdict_of _ _ _ _ _ (judged_by verdict_of _ _ _ says) c.in_err-verdict.was c.from_residual-in_err-verdict.ensures.1)
 
-pub scaled-rate-requires : goal.scaled-rate-requires
-scaled-rate-requires c =
+pub returns-in_err-refuse_if : goal.returns-in_err-refuse_if
+returns-in_err-refuse_if c =
+    let k : Recording = recording_of c.args.recording in
     let p = params_of c.args.params in
-    let passes = sym c.judge_params-judged.ensures ∙ ap judgement_of c.in_default.is in
-    let rate-ready = rate-scaled p c.args.row passes c.if-params-row.false in
-    rate-ready
-
-pub scaled-buffer-requires : goal.scaled-buffer-requires
-scaled-buffer-requires c =
-    let p = params_of c.args.params in
-    let passes = sym c.judge_params-judged.ensures ∙ ap judgement_of c.in_default.is in
-    size-scaled p c.args.row passes c.if-params-row.false
-
-pub returns-in-Refused-verdict : goal.returns-in-Refused-verdict
-returns-in-Refused-verdict c =
-    let k : Recording = recording c.args.sizes.now c.args.ticks.now c.args.ts c.args.nu in
-    let p = params_of c.args.params in
-    let passes = sym c.judge_params-judged.ensures ∙ ap judgement_of c.in_default.is in
-    let answers : answer_of c.bucket_verdict-verdict.result ≡ verdict_outcome k (row_bucket p c.args.row c.args.fullness) = rw (c.scaled-rate.ensures, c.scaled-buffer.ensures) at c.bucket_verdict-verdict.ensures in
-    sym (row-refused k p c.args.row c.args.fullness passes c.if-params-row.false (sym answers ∙ ap answer_of c.in-Refused-verdict.is))
-
-pub offset_bounds-flags-row : goal.offset_bounds-flags-row
-offset_bounds-flags-row c =
-    let p = params_of c.args.params in
-    let passes = sym c.judge_params-judged.ensures ∙ ap judgement_of c.in_default.is in
-    let rate-ready = rate-scaled p c.args.row passes c.if-params-row.false in
-    omega (arith, rate-ready.within)
-
-pub bounds-flags-row : goal.bounds-flags-row
-bounds-flags-row c =
-    let p = params_of c.args.params in
-    let passes = sym c.judge_params-judged.ensures ∙ ap judgement_of c.in_default.is in
-    let rate-ready = rate-scaled p c.args.row passes c.if-params-row.false in
-    rate-ready.within
-
-pub returns-then-flags-row-eq1 : goal.returns-then-flags-row-eq1
-returns-then-flags-row-eq1 c =
-    let k : Recording = recording c.args.sizes.now c.args.ticks.now c.args.ts c.args.nu in
-    let p = params_of c.args.params in
-    let passes = sym c.judge_params-judged.ensures ∙ ap judgement_of c.in_default.is in
-    let answers : answer_of c.bucket_verdict-verdict.result ≡ verdict_outcome k (row_bucket p c.args.row c.args.fullness) = rw (c.scaled-rate.ensures, c.scaled-buffer.ensures) at c.bucket_verdict-verdict.ensures in
-    let (v, says) = told c.bucket_verdict-verdict.result c.in_default-verdict.not-Refused in
-    sym (row-constant k p c.args.row c.args.fullness passes c.if-params-row.false v (sym answers ∙ says) c.if-flags-row-eq1.true)
+    let f = c.args.fullness in
+    let says = c.bucket_verdict.ensures ∙ ap (verdict_outcome k) (row-given p c.args.row _ f c.in_ok-rate.ensures.figures) in
+    rw (
+      row-first p c.args.row k f,
+      pass _ _ _ (judged_by row_of _ _ _ c.params_row.ensures.figures) c.in_ok-rate.was,
+      pass _ _ _ (judged_by verdict_of _ _ _ says) c.in_ok-verdict.was,
+    )
+    (stop-answer verdict_of _ _ _ _ _ c.refuse_if.ensures c.in_err-refuse_if.was c.from_residual-in_err-refuse_if.ensures.1)
 
 pub returns : goal.returns
 returns c =
-    let k : Recording = recording c.args.sizes.now c.args.ticks.now c.args.ts c.args.nu in
+    let k : Recording = recording_of c.args.recording in
     let p = params_of c.args.params in
-    let passes = sym c.judge_params-judged.ensures ∙ ap judgement_of c.in_default.is in
-    let answers : answer_of c.bucket_verdict-verdict.result ≡ verdict_outcome k (row_bucket p c.args.row c.args.fullness) = rw (c.scaled-rate.ensures, c.scaled-buffer.ensures) at c.bucket_verdict-verdict.ensures in
-    let (v, says) = told c.bucket_verdict-verdict.result c.in_default-verdict.not-Refused in
-    says ∙ sym (row-given k p c.args.row c.args.fullness passes c.if-params-row.false v (sym answers ∙ says) c.if-flags-row-eq1.false)
+    let f = c.args.fullness in
+    let u = row_bucket p c.args.row f in
+    let says = c.bucket_verdict.ensures ∙ ap (verdict_outcome k) (row-given p c.args.row _ f c.in_ok-rate.ensures.figures) in
+    let steps =
+    row-first p c.args.row k f
+    ∙ pass _ _ _ (judged_by row_of _ _ _ c.params_row.ensures.figures) c.in_ok-rate.was
+    ∙ pass _ _ _ (judged_by verdict_of _ _ _ says) c.in_ok-verdict.was
+    ∙ last _
+    ∙ passes _ _ c.refuse_if.ensures c.in_ok-refuse_if.was
+    in
+    sym (ap answer_of c.in_ok-verdict.was)
+    ∙ says
+    ∙ answer-given (arrival.verdict_of k u) (passes _ _ (judged_by verdict_of _ _ _ says) c.in_ok-verdict.was)
+    ∙ sym (answer-given (arrival.verdict_of k u) steps)
