@@ -2,17 +2,14 @@
 --     length_of        how many bits a record takes, or a refusal
 --     params_written   the answer of writing, with the bytes afterwards
 -- Assumes nothing.
-use Rattle.std.specs.Prelude.{ℕ, List}
-use Rattle.terms.specs.Answers.{Answer, given, refused}
+use Rattle.std.specs.Prelude.{ℕ, List, Result}
+use Rattle.terms.specs.Answers.{Answer}
 use Rattle.coding.specs.Params as params
-use Rattle.params.specs.Outcome.{position_of}
-use Rattle.params.specs.declared.Position.{Position}
-use Rattle.params_write.specs.declared.Length.{Length}
-use Rattle.params_write.specs.declared.Length.TheVariants as lengths
+use Rattle.judgement.specs.Outcome.{answer_by}
+use Rattle.judgement.specs.declared.Refusal.{Refusal}
 
-abbrev pub length_of : Length → Answer ℕ
-length_of (lengths.Bits n) = given n
-length_of (lengths.Refused number place) = refused number place
+abbrev pub length_of : Result ℕ Refusal → Answer ℕ
+length_of r = answer_by (λ n. n) r
 
-abbrev pub params_written : Position → (bytes : List ℕ) → params.ParamsWritten
-params_written r bytes = record { answer = position_of r; bytes = bytes }
+abbrev pub params_written : Result ℕ Refusal → (bytes : List ℕ) → params.ParamsWritten
+params_written r bytes = record { answer = answer_by (λ n. n) r; bytes = bytes }

@@ -1,44 +1,60 @@
--- `params_write::params_length` meets its contract. The loop's invariant: the bits counted and those of the fields that are left are the record's,
--- and are at most 63 for each field passed. The measure is what is left of the fields. Assumes nothing.
-use Prim.Native.Nat.{ℕ, ◌+◌, ◌*◌, ◌≤◌, ◌<◌}
+-- `params_write::params_length` meets its contract: the bits of the fields, each at most 63, are those of the record.
+-- Assumes nothing.
+use Prim.Native.Nat.{ℕ, zero, suc, ◌+◌, ◌*◌, ◌^◌, ◌≤◌}
+use native.Mathlib.Numerals.{add-one}
 use native.Mathlib.Omega.{arith}
-use mathlib.Core.Path.{◌≡◌, ap}
+use mathlib.Core.Path.{◌≡◌, refl, ap, subst, ◌∙◌}
+use mathlib.Core.List.{map}
 use lib.ListN.{length}
 use borrow.Author.Rules.{rules}
-use Rattle.coding.specs.Codes.{code_bits}
+use borrow.Author.Tests.{tests}
+use Rattle.std.specs.List.{range_with_len, sum}
+use Rattle.std.proofs.lemmas.Iterator.{YieldsList-from_range, YieldsList-from_map, serves_from_Range}
+use Rattle.std.proofs.lemmas.Iterator.Adapters.{fits_from_length, at_most_from_yields_List}
+use Rattle.std.proofs.lemmas.Iterator.Consumers.{sum_from_yields_List}
+use Rattle.std.proofs.lemmas.List.FromFn.{length-range_with_len, sum_by-map-range_with_len_more}
 use Rattle.coding.specs.Params.{Params, params_bits}
 use Rattle.params.specs.Outcome.{params_of}
-use Rattle.params.specs.Steps.{code_of}
-use Rattle.params.specs.declared.Field as code
-use Rattle.params.proofs.ValuesLaws.{walk-judged, walk-next, At}
-use Rattle.params_write.proofs.WriteLaws.{bits-none, length-more, field-ready}
-use Rattle.params_write.proofs.params_length.Invariants.{Counted}
+use Rattle.params_write.proofs.WriteLaws.{field_bits, bits_left, bits-none, length-more}
 use Rattle.params_write.proofs.params_length.Goals as goal
 
-module _ (p : Params) (bits f : ℕ) (h : Counted p bits f) where
-  next : (field : code.Field) (v : ℕ) → At p f field v → (r : ℕ) → (r ≡ length (code_bits (code_of field.width) v)) × (r < 64) → Counted p (bits + r) (f + 1)
-  next field v at r (is, small) =
-      record {
-        walk = walk-next h.walk at.within;
-        few = omega (arith, h.few);
-        sum = omega (arith, h.sum, length-more p f field v at);
-      }
+-- the bits of the first n fields
+lengths : Params → (n : ℕ) → ℕ
+lengths p n = sum (map (λ f. length (field_bits p f)) (range_with_len 0 n))
 
-  done : 3 + 3 * p.cpb_cnt + 4 ≤ f → (bits ≡ length (params_bits p)) × (bits < 6592)
-  done end = omega (arith, h, ap length (bits-none p f end))
+lengths-none : (p : Params) → lengths p 0 ≡ 0
+unfolding lengths
+lengths-none p = refl
 
-pub loop-f-init : goal.loop-f-init
-loop-f-init c = record { walk = walk-judged _ c.requires; few = search rules; sum = search rules }
+lengths-more : (p : Params) (n : ℕ) → lengths p (n + 1) ≡ lengths p n + length (field_bits p n)
+unfolding lengths
+lengths-more p n = sum_by-map-range_with_len_more (λ x. x) (λ f. length (field_bits p f)) 0 n n (omega arith)
 
-pub field_length-bits-requires : goal.field_length-bits-requires
-field_length-bits-requires c =
-    let turn : At (params_of c.args.params) c.loop-f.f c.field_at.result c.value_at.result = record { within = search rules; is = c.field_at.ensures; value = c.value_at.ensures } in
-    field-ready _ _ _ _ turn c.requires
+lengths-left : (p : Params) (n : ℕ) → n ≤ 3 + 3 * p.cpb_cnt + 4 → lengths p n + length (bits_left p n) ≡ length (params_bits p)
+lengths-left p zero h = omega (arith, lengths-none p)
+lengths-left p (suc n) h =
+    subst (λ m. lengths p m + length (bits_left p m) ≡ length (params_bits p)) (add-one n)
+    (omega (arith, lengths-more p n, lengths-left p n (omega arith), length-more p n h))
 
-pub loop-f-preserved : goal.loop-f-preserved
-loop-f-preserved c =
-    let turn : At (params_of c.args.params) c.loop-f.f c.field_at.result c.value_at.result = record { within = search rules; is = c.field_at.ensures; value = c.value_at.ensures } in
-    next _ _ _ c.loop-f.invariant _ _ turn _ c.field_length-bits.ensures
+whole : (p : Params) → sum (map (λ f. length (field_bits p f)) (range_with_len 0 (3 + 3 * p.cpb_cnt + 4))) ≡ length (params_bits p)
+unfolding lengths
+whole p =
+    let n = 3 + 3 * p.cpb_cnt + 4 in
+    omega (arith, lengths-left p n (omega arith), ap length (bits-none p n (omega arith)))
+
+pub sum-requires-clause-can : goal.sum-requires-clause-can
+sum-requires-clause-can c = (tt, serves_from_Range (λ x q k. search rules) (λ x g l. search rules))
+
+pub sum-requires-clause-fits : goal.sum-requires-clause-fits
+sum-requires-clause-fits c =
+    fits_from_length _ _ 103 (2 ^ 64)
+    (at_most_from_yields_List (YieldsList-from_range 0 c.field_count.result c.field_count.result c.map.ensures.source (search rules)) (rw length-range_with_len (search rules)))
+    c.map.ensures.closure (search rules) (λ x r q k. search (rules, tests))
 
 pub returns : goal.returns
-returns c = done _ _ _ c.loop-f.invariant c.loop-f-test.false
+returns c =
+    let p = params_of c.args.params in
+    let all = 3 + 3 * p.cpb_cnt + 4 in
+    sum_from_yields_List c.map.result c.sum.result c.sum.ensures.ran
+    (YieldsList-from_map _ (λ f. length (field_bits p f)) (YieldsList-from_range 0 c.field_count.result all c.map.ensures.source (search rules)) c.map.ensures.closure (λ x r q k. search (rules, tests)))
+    ∙ whole p

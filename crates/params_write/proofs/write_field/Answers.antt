@@ -1,11 +1,11 @@
--- `params_write::write_field` meets its contract: by the width the value is written by `write_ue` or by `write_u`, and its bits are those of its code.
+-- `params_write::write_field` meets its contract: there is room for the width bits of u(width).
 -- Assumes nothing.
-use borrow.Author.Rules.{rules}
+use native.Mathlib.Omega.{arith}
 use Rattle.coding.proofs.CodesLaws.{unsigned_bits-length}
-use Rattle.params.proofs.FieldAtLaws.{code-u}
 use Rattle.params_write.proofs.write_field.Goals as goal
 
 pub write_u-requires : goal.write_u-requires
 write_u-requires c =
-    let (room, near) = rw (code-u c.args.field.width c.if-field-eq0.false, unsigned_bits-length) at c.requires.room in
-    (search rules, room, near)
+    let few = rw c.in-Unsigned.is at c.requires.in_range.2 in
+    let room = rw (c.in-Unsigned.is, unsigned_bits-length) at c.requires.room in
+    (omega arith, room.0, room.1)

@@ -1,39 +1,36 @@
 -- `params_write::write_fields` meets its contract. The loop's invariant: the fields that are left, written at `p` into the bytes as they are, end where
--- the whole record does and give the bytes that it gives. The measure is what is left of the fields. Assumes nothing.
-use Prim.Native.Nat.{ℕ, ◌+◌, ◌*◌, ◌^◌, ◌≤◌}
+-- the whole record does and give the bytes that it gives. Assumes nothing.
+use Prim.Native.Nat.{ℕ, ◌+◌, ◌*◌, ◌^◌, ◌≤◌, ◌<◌}
 use native.Mathlib.Omega.{arith}
-use mathlib.Core.Path.{◌≡◌, refl, sym, ap, ◌∙◌}
-use mathlib.Core.List.{List}
+use mathlib.Core.Path.{◌≡◌, refl, ap}
+use mathlib.Core.List.{List, ◌++◌}
 use lib.ListN.{length}
-use borrow.Author.Rules.{rules}
 use Rattle.coding.specs.Codes.{code_bits, put_bits}
 use Rattle.coding.specs.Params.{Params, params_bits}
-use Rattle.coding.proofs.PutBitsLaws.{put_bits-length, put_bits-append}
-use Rattle.params.specs.Outcome.{params_of}
+use Rattle.coding.proofs.PutBitsLaws.{put_bits-append}
 use Rattle.params.specs.Steps.{code_of}
 use Rattle.params.specs.declared.Field as code
-use Rattle.params.proofs.ValuesLaws.{walk-judged, walk-next, At}
-use Rattle.params_write.proofs.WriteLaws.{bits_left, bits-none, bits-more, length-more, field-ready}
+use Rattle.params_write.proofs.WriteLaws.{Here, bits_left, bits-none, bits-more, length-more}
 use Rattle.params_write.proofs.write_fields.Invariants.{Written}
 use Rattle.params_write.proofs.write_fields.Goals as goal
 
 module _ (p : Params) (bytes₀ : List ℕ) (start : ℕ) (bytes : List ℕ) (q f : ℕ) (h : Written p bytes₀ start bytes q f) where
-  same-size : length bytes ≡ length bytes₀
-  same-size = sym (put_bits-length bytes q (bits_left p f)) ∙ ap length h.is ∙ put_bits-length bytes₀ start (params_bits p)
+  module _ (inside : f < 3 + 3 * p.cpb_cnt + 4) (field : code.Field) (v : ℕ) (here : Here p f field v) where
+    long : length (bits_left p f) ≡ length (code_bits (code_of field.code) v) + length (bits_left p (f + 1))
+    long = rw (← here.0, ← here.1) at (length-more p f inside)
 
-  module _ (field : code.Field) (v : ℕ) (at : At p f field v) where
-    room : (start + length (params_bits p) ≤ 8 * length bytes₀) × (start + length (params_bits p) ≤ 2 ^ 32)
-        → (q + length (code_bits (code_of field.width) v) ≤ 8 * length bytes) × (q + length (code_bits (code_of field.width) v) ≤ 2 ^ 32)
-    room whole = omega (arith, h.end, length-more p f field v at, same-size)
+    room : (start + length (params_bits p) ≤ 8 * length bytes₀) × (start + length (params_bits p) ≤ 2 ^ 32) → length bytes ≡ length bytes₀
+        → (q + length (code_bits (code_of field.code) v) ≤ 8 * length bytes) × (q + length (code_bits (code_of field.code) v) ≤ 2 ^ 32)
+    room whole same = omega (arith, h.end, long)
 
     next : (q' : ℕ) (bytes' : List ℕ)
-        → (q' ≡ q + length (code_bits (code_of field.width) v)) × (bytes' ≡ put_bits bytes q (code_bits (code_of field.width) v))
+        → (q' ≡ q + length (code_bits (code_of field.code) v)) × (bytes' ≡ put_bits bytes q (code_bits (code_of field.code) v))
         → Written p bytes₀ start bytes' q' (f + 1)
     next q' bytes' (behind, put) =
+        let bits : bits_left p f ≡ code_bits (code_of field.code) v ++ bits_left p (f + 1) = rw (← here.0, ← here.1) at (bits-more p f inside) in
         record {
-          walk = walk-next h.walk at.within;
-          end = omega (arith, h.end, length-more p f field v at);
-          is = rw (put, behind, ← put_bits-append, ← bits-more p f field v at) h.is;
+          end = omega (arith, h.end, long);
+          is = rw (put, behind, ← put_bits-append, ← bits) h.is;
         }
 
   done : 3 + 3 * p.cpb_cnt + 4 ≤ f → (q ≡ start + length (params_bits p)) × (bytes ≡ put_bits bytes₀ start (params_bits p))
@@ -41,17 +38,14 @@ module _ (p : Params) (bytes₀ : List ℕ) (start : ℕ) (bytes : List ℕ) (q 
   done all = (omega (arith, h.end, ap length (bits-none p f all)), rw (bits-none p f all) at h.is)
 
 pub loop-f-init : goal.loop-f-init
-loop-f-init c = record { walk = walk-judged _ c.requires.judged; end = refl; is = refl }
+loop-f-init c = record { end = refl; is = refl }
 
-pub write_field-p-requires : goal.write_field-p-requires
-write_field-p-requires c =
-    let turn : At (params_of c.args.params) c.loop-f.f c.field_at.result c.value_at.result = record { within = search rules; is = c.field_at.ensures; value = c.value_at.ensures } in
-    record { in_range = field-ready _ _ _ _ turn c.requires.judged; room = room _ _ _ _ _ _ c.loop-f.invariant _ _ turn c.requires.room }
+pub write_field-p-requires-clause-room : goal.write_field-p-requires-clause-room
+write_field-p-requires-clause-room c =
+    room _ _ _ _ _ _ c.loop-f.invariant (omega arith) _ _ c.field_and_value-v.ensures.is c.requires.room c.loop-f.auto.bytes
 
 pub loop-f-preserved : goal.loop-f-preserved
-loop-f-preserved c =
-    let turn : At (params_of c.args.params) c.loop-f.f c.field_at.result c.value_at.result = record { within = search rules; is = c.field_at.ensures; value = c.value_at.ensures } in
-    next _ _ _ _ _ _ c.loop-f.invariant _ _ turn _ _ c.write_field-p.ensures
+loop-f-preserved c = next _ _ _ _ _ _ c.loop-f.invariant (omega arith) _ _ c.field_and_value-v.ensures.is _ _ c.write_field-p.ensures
 
 pub returns : goal.returns
-returns c = done _ _ _ _ _ _ c.loop-f.invariant c.loop-f-test.false
+returns c = done _ _ _ _ _ _ c.loop-f.invariant (omega arith)

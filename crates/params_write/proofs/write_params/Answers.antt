@@ -2,59 +2,67 @@
 -- `write_fields` gives. Assumes nothing.
 use Prim.Native.Nat.{ℕ, ◌+◌, ◌≤◌, ◌<◌}
 use native.Mathlib.Omega.{arith}
-use mathlib.Core.Path.{◌≡◌, sym, ap, ap₂, ◌∙◌}
-use mathlib.Core.List.{List, [], ◌∷◌}
+use mathlib.Core.Path.{◌≡◌, refl, sym, ap, ◌∙◌}
+use mathlib.Core.List.{List, []}
 use lib.ListN.{length}
-use lib.Dec.{ltb}
 use borrow.Author.Tests.{lt-ltb, le-ltb}
+use borrow.Author.Rules.{rules}
+use Rattle.std.specs.Prelude.{Ok, Err}
 use Rattle.rules.specs.Refusals as refusal
-use Rattle.terms.specs.Answers.{given, refused, passed, refuse_if, first}
+use Rattle.terms.specs.Answers.{given, refused, passed, first}
+use Rattle.terms.proofs.AnswersLaws.{test-false, test-true, skip, here, answer-passed, answer-refuses, first-passed}
 use Rattle.coding.specs.Codes.{bits_of, put_bits}
-use Rattle.coding.specs.Params.{Params, ParamsWritten, params_judged, params_bits, write_faults, write_outcome}
-use Rattle.terms.proofs.AnswersLaws.{test-false, test-true, skip, here}
+use Rattle.coding.specs.Params.{Params, params_judged, params_bits, length_outcome, write_faults, write_outcome}
+use Rattle.judgement.specs.Outcome.{number_of, place_of}
+use Rattle.judgement.specs.declared.Refusal.{Refusal}
+use Rattle.judgement.specs.declared.Refusal.TheVariants.{Room}
+use Rattle.judgement.proofs.Steps.{stopped}
 use Rattle.params.specs.Outcome.{params_of}
-use Rattle.judgement.specs.Outcome.{judgement_of}
+use Rattle.params_write.specs.Outcome.{params_written}
+use Rattle.params_write.proofs.write_params.Goals.{then-end-start-via-then-end-start, then-end-start-via-else-end-start+then-end-start-2}
 use Rattle.params_write.proofs.write_params.Goals as goal
 
--- the outcome of a refusal: the bytes stay
-abbrev kept : (bytes : List ℕ) (number place : ℕ) → ParamsWritten
-kept bytes number place = record { answer = refused number place; bytes = bytes }
+-- a record that is given its length passes
+measured : (p : Params) (bits : ℕ) → given bits ≡ length_outcome p → (params_judged p ≡ passed) × (length (params_bits p) ≡ bits)
+measured p bits says = answer-passed _ _ _ (sym says)
 
 module _ (p : Params) (bytes : List ℕ) (start : ℕ) where
-  write-refused : {n i : ℕ} → first (write_faults p bytes start) ≡ refused n i → write_outcome p bytes start ≡ kept bytes n i
-  write-refused e = rw e
+  -- the bytes of a refusal stay
+  stays : (e : Refusal) → first (write_faults p bytes start) ≡ refused (number_of e) (place_of e) → params_written (Err e) bytes ≡ write_outcome p bytes start
+  stays e says = rw says refl
 
-  write-fault : {n i : ℕ} → params_judged p ≡ refused n i → write_outcome p bytes start ≡ kept bytes n i
-  write-fault e = write-refused (here _ e)
+  fault : (e : Refusal) → refused (number_of e) (place_of e) ≡ length_outcome p → params_written (Err e) bytes ≡ write_outcome p bytes start
+  fault e says = stays e (here _ (answer-refuses _ (length (params_bits p)) _ _ (sym says)))
 
-  module _ (ok : params_judged p ≡ passed) where
-    room-left : first (write_faults p bytes start) ≡ first (refuse_if (ltb (bits_of bytes).end (start + length (params_bits p))) refusal.room 0 ∷ [])
-    room-left = skip _ ok
+  module _ (bits : ℕ) (says : given bits ≡ length_outcome p) where
+    short : (bits_of bytes).end < start + bits → params_written (Err Room) bytes ≡ write_outcome p bytes start
+    short h = stays Room (skip _ (measured p bits says).0 ∙ here [] (test-true refusal.room 0 (rw (measured p bits says).1 (lt-ltb _ _ h))))
 
-    write-short : (bits_of bytes).end < start + length (params_bits p) → write_outcome p bytes start ≡ kept bytes refusal.room 0
-    write-short h = write-refused (room-left ∙ here [] (test-true refusal.room 0 (lt-ltb _ _ h)))
+    done : start + bits ≤ (bits_of bytes).end → (q : ℕ) (after : List ℕ) → (q ≡ start + length (params_bits p)) × (after ≡ put_bits bytes start (params_bits p))
+        → params_written (Ok q) after ≡ write_outcome p bytes start
+    done h q after (next, put) =
+        let e : first (write_faults p bytes start) ≡ passed =
+        (first-passed (write_faults p bytes start)).1 ((measured p bits says).0, (test-false refusal.room 0 (rw (measured p bits says).1 (le-ltb _ _ h)), tt)) in
+        rw (e, next, put) refl
 
-    write-done : start + length (params_bits p) ≤ (bits_of bytes).end
-        → write_outcome p bytes start ≡ record { answer = given (start + length (params_bits p)); bytes = put_bits bytes start (params_bits p) }
-    unfolding first
-    write-done h = let e = room-left ∙ skip [] (test-false refusal.room 0 (le-ltb _ _ h)) in rw e
-
-pub returns-in-Refused : goal.returns-in-Refused
-returns-in-Refused c =
-    sym (write-fault (params_of c.args.params) c.args.bytes.now c.args.start (sym c.judge_params-judged.ensures ∙ ap judgement_of c.in-Refused.is))
+pub returns-in_err-bits : goal.returns-in_err-bits
+returns-in_err-bits c =
+    ap (λ r. params_written r c.args.bytes.now) (stopped _ _ c.from_residual.ensures.1)
+    ∙ fault (params_of c.args.params) c.args.bytes.now c.args.start _ c.in_err-bits.ensures
 
 pub returns-then-end-start : goal.returns-then-end-start
 returns-then-end-start c =
-    let passes = sym c.judge_params-judged.ensures ∙ ap judgement_of c.in_default.is in
-    sym (write-short (params_of c.args.params) c.args.bytes.now c.args.start passes (omega arith))
+    short (params_of c.args.params) c.args.bytes.now c.args.start _ c.in_ok-bits.ensures
+    (elim c.then-end-start.branch [
+      | then-end-start-via-then-end-start w ↦ omega arith
+      | then-end-start-via-else-end-start+then-end-start-2 w ↦ omega arith
+    ])
 
-pub returns-then-end-start-2 : goal.returns-then-end-start-2
-returns-then-end-start-2 c =
-    let passes = sym c.judge_params-judged.ensures ∙ ap judgement_of c.in_default.is in
-    sym (write-short (params_of c.args.params) c.args.bytes.now c.args.start passes (omega arith))
+pub write_fields-requires : goal.write_fields-requires
+write_fields-requires c =
+    let (judged, long) = measured (params_of c.args.params) _ c.in_ok-bits.ensures in
+    record { judged = judged; room = rw long (search rules) }
 
 pub returns : goal.returns
 returns c =
-    let passes = sym c.judge_params-judged.ensures ∙ ap judgement_of c.in_default.is in
-    let written = c.write_fields.ensures in
-    ap₂ (λ q bytes. record { answer = given q; bytes = bytes }) written.0 written.1 ∙ sym (write-done (params_of c.args.params) c.args.bytes.now c.args.start passes (omega arith))
+    done (params_of c.args.params) c.args.bytes.now c.args.start _ c.in_ok-bits.ensures (omega arith) _ _ c.write_fields.ensures
