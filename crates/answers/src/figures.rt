@@ -1,19 +1,17 @@
 // Least figures, tables and lookups, as C and Rust see them. Serves document 01, "How bits arrive and leave", "Least
 // figures", and "Looking up a rate in a table".
-ghost use Rattle.std.specs.Prelude.{◌≡◌, ℕ};
-ghost use Rattle.least.specs.Outcome.{figures_of, tabled_of};
-ghost use Rattle.lookup.specs.Outcome.{found_of};
-ghost use Rattle.answers.specs.Recordings.{judgement_answer};
+ghost use Rattle.std.specs.Prelude.{◌≡◌};
+ghost use Rattle.judgement.specs.Outcome.{answer_by};
+ghost use Rattle.recording.specs.Given.{bucket_of};
 ghost use Rattle.answers.specs.Figures.{bucket_answer};
 
-use crate::recordings::PlannerJudgement;
-use least::{Figures, Tabled};
-use lookup::Found;
+use judgement::Refusal;
+use recording::Bucket;
 use rules::{KIND_GIVEN, KIND_REFUSED};
 
 // Buffer and start fullness, or refused.
 #[repr(C)]
-#[derive(Drop)]
+#[derive(Clone, Copy, Debug, Default, PartialEq, Eq)]
 pub struct PlannerBucket {
     pub kind: u64,
     pub number: u64,
@@ -22,64 +20,24 @@ pub struct PlannerBucket {
     pub fullness: u64,
 }
 
-// Least figures as a struct, which does not say their rate.
-pub fn as_least(figures: Figures) -> PlannerBucket
-    ensures { (rate : ℕ) → result ≡ bucket_answer (figures_of rate figures) }
-{
-    match figures {
-        Figures::Least(buffer, fullness) => PlannerBucket {
-            kind: KIND_GIVEN,
-            number: 0,
-            place: 0,
-            buffer,
-            fullness,
-        },
-        Figures::Refused(number, place) => PlannerBucket {
-            kind: KIND_REFUSED,
-            number: number as u64,
-            place: place as u64,
-            buffer: 0,
-            fullness: 0,
-        },
-    }
-}
+// The struct does not say the bucket's rate.
+impl From<Result<Bucket, Refusal>> for PlannerBucket {
+    ghost from_gives = { λ found answer. answer ≡ bucket_answer (answer_by bucket_of found) };
 
-// The answer of a table as a struct.
-pub fn as_table(tabled: Tabled) -> PlannerJudgement
-    ensures { result ≡ judgement_answer (tabled_of tabled) }
-{
-    match tabled {
-        Tabled::Written => PlannerJudgement {
-            kind: KIND_GIVEN,
-            number: 0,
-            place: 0,
-        },
-        Tabled::Refused(number, place) => PlannerJudgement {
-            kind: KIND_REFUSED,
-            number: number as u64,
-            place: place as u64,
-        },
-    }
-}
-
-// What a lookup found as a struct, which does not say the rate asked.
-pub fn as_found(found: Found) -> PlannerBucket
-    ensures { (rate : ℕ) → result ≡ bucket_answer (found_of rate found) }
-{
-    match found {
-        Found::Bucket(buffer, fullness) => PlannerBucket {
-            kind: KIND_GIVEN,
-            number: 0,
-            place: 0,
-            buffer,
-            fullness,
-        },
-        Found::Refused(number, place) => PlannerBucket {
-            kind: KIND_REFUSED,
-            number: number as u64,
-            place: place as u64,
-            buffer: 0,
-            fullness: 0,
-        },
+    fn from(found: Result<Bucket, Refusal>) -> PlannerBucket {
+        match found {
+            Ok(bucket) => PlannerBucket {
+                kind: KIND_GIVEN,
+                buffer: bucket.buffer,
+                fullness: bucket.fullness,
+                ..PlannerBucket::default()
+            },
+            Err(refusal) => PlannerBucket {
+                kind: KIND_REFUSED,
+                number: u64::from(refusal.number()),
+                place: refusal.place() as u64,
+                ..PlannerBucket::default()
+            },
+        }
     }
 }

@@ -4,13 +4,13 @@ ghost use Rattle.judgement.specs.Outcome.{judgement_of};
 ghost use Rattle.schedule.specs.Outcome.{answer_of};
 ghost use Rattle.answers.specs.Recordings.{judgement_answer, verdict_answer};
 
-use judgement::Judgement;
+use judgement::{Judgement, Refusal};
 use rules::{KIND_GIVEN, KIND_HOLDS, KIND_LATE, KIND_REFUSED};
 use schedule::Verdict;
 
 // Passed, or refused.
 #[repr(C)]
-#[derive(Drop)]
+#[derive(Clone, Copy, Debug, Default, PartialEq, Eq)]
 pub struct PlannerJudgement {
     pub kind: u64,
     pub number: u64,
@@ -19,7 +19,7 @@ pub struct PlannerJudgement {
 
 // Holds, or late with the first late picture and its units, or refused.
 #[repr(C)]
-#[derive(Drop)]
+#[derive(Clone, Copy, Debug, Default, PartialEq, Eq)]
 pub struct PlannerVerdict {
     pub kind: u64,
     pub number: u64,
@@ -28,49 +28,45 @@ pub struct PlannerVerdict {
     pub units: u64,
 }
 
-// A judgement as a struct.
-pub fn as_judgement(judged: Judgement) -> PlannerJudgement
-    ensures { result ≡ judgement_answer (judgement_of judged) }
-{
-    match judged {
-        Judgement::Passed => PlannerJudgement {
-            kind: KIND_GIVEN,
-            number: 0,
-            place: 0,
-        },
-        Judgement::Refused(number, place) => PlannerJudgement {
-            kind: KIND_REFUSED,
-            number: number as u64,
-            place: place as u64,
-        },
+impl From<Judgement> for PlannerJudgement {
+    ghost from_gives = { λ judged answer. answer ≡ judgement_answer (judgement_of judged) };
+
+    fn from(judged: Judgement) -> PlannerJudgement {
+        match judged {
+            Ok(()) => PlannerJudgement {
+                kind: KIND_GIVEN,
+                ..PlannerJudgement::default()
+            },
+            Err(refusal) => PlannerJudgement {
+                kind: KIND_REFUSED,
+                number: u64::from(refusal.number()),
+                place: refusal.place() as u64,
+            },
+        }
     }
 }
 
-// A verdict as a struct.
-pub fn as_verdict(verdict: Verdict) -> PlannerVerdict
-    ensures { result ≡ verdict_answer (answer_of verdict) }
-{
-    match verdict {
-        Verdict::Holds => PlannerVerdict {
-            kind: KIND_HOLDS,
-            number: 0,
-            place: 0,
-            picture: 0,
-            units: 0,
-        },
-        Verdict::Late(picture, units) => PlannerVerdict {
-            kind: KIND_LATE,
-            number: 0,
-            place: 0,
-            picture: picture as u64,
-            units,
-        },
-        Verdict::Refused(number, place) => PlannerVerdict {
-            kind: KIND_REFUSED,
-            number: number as u64,
-            place: place as u64,
-            picture: 0,
-            units: 0,
-        },
+impl From<Result<Verdict, Refusal>> for PlannerVerdict {
+    ghost from_gives = { λ verdict answer. answer ≡ verdict_answer (answer_of verdict) };
+
+    fn from(verdict: Result<Verdict, Refusal>) -> PlannerVerdict {
+        match verdict {
+            Ok(Verdict::Holds) => PlannerVerdict {
+                kind: KIND_HOLDS,
+                ..PlannerVerdict::default()
+            },
+            Ok(Verdict::Late(picture, units)) => PlannerVerdict {
+                kind: KIND_LATE,
+                picture: picture as u64,
+                units,
+                ..PlannerVerdict::default()
+            },
+            Err(refusal) => PlannerVerdict {
+                kind: KIND_REFUSED,
+                number: u64::from(refusal.number()),
+                place: refusal.place() as u64,
+                ..PlannerVerdict::default()
+            },
+        }
     }
 }

@@ -1,20 +1,19 @@
 // Parameter records, as C and Rust see them. Serves document 01, "HRD parameter bits".
 ghost use Rattle.std.specs.Prelude.{◌≡◌};
-ghost use Rattle.params.specs.Outcome.{position_of};
+ghost use Rattle.judgement.specs.Outcome.{answer_by};
 ghost use Rattle.params_read.specs.Outcome.{params_read_of};
-ghost use Rattle.params_write.specs.Outcome.{length_of};
 ghost use Rattle.row_verdict.specs.Outcome.{params_row_of};
 ghost use Rattle.answers.specs.Records.{position_answer, read_answer, length_answer, row_answer};
 
-use params::{Params, Position};
+use judgement::Refusal;
+use params::Params;
 use params_read::ParamsRead;
-use params_write::Length;
-use row_verdict::ParamsRow;
+use row_verdict::Row;
 use rules::{KIND_GIVEN, KIND_REFUSED};
 
 // A record and the next bit position, or refused, with the record all zero.
 #[repr(C)]
-#[derive(Drop)]
+#[derive(Clone, Copy, Debug, Default, PartialEq, Eq)]
 pub struct PlannerParamsRead {
     pub kind: u64,
     pub number: u64,
@@ -25,7 +24,7 @@ pub struct PlannerParamsRead {
 
 // The next bit position, or refused.
 #[repr(C)]
-#[derive(Drop)]
+#[derive(Clone, Copy, Debug, Default, PartialEq, Eq)]
 pub struct PlannerPosition {
     pub kind: u64,
     pub number: u64,
@@ -35,7 +34,7 @@ pub struct PlannerPosition {
 
 // How many bits a record takes, or refused.
 #[repr(C)]
-#[derive(Drop)]
+#[derive(Clone, Copy, Debug, Default, PartialEq, Eq)]
 pub struct PlannerLength {
     pub kind: u64,
     pub number: u64,
@@ -45,7 +44,7 @@ pub struct PlannerLength {
 
 // Rate and size of a row of a record, or refused.
 #[repr(C)]
-#[derive(Drop)]
+#[derive(Clone, Copy, Debug, Default, PartialEq, Eq)]
 pub struct PlannerRow {
     pub kind: u64,
     pub number: u64,
@@ -54,88 +53,85 @@ pub struct PlannerRow {
     pub size: u64,
 }
 
-// What reading a record found as a struct.
-pub fn as_read(found: ParamsRead) -> PlannerParamsRead
-    ensures { read_answer result (params_read_of found) }
-{
-    let params = found.params;
-    let position = found.position;
-    match position {
-        Position::Next(next) => PlannerParamsRead {
-            kind: KIND_GIVEN,
-            number: 0,
-            place: 0,
-            next,
-            params,
-        },
-        Position::Refused(number, place) => PlannerParamsRead {
-            kind: KIND_REFUSED,
-            number: number as u64,
-            place: place as u64,
-            next: 0,
-            params,
-        },
+impl From<Result<ParamsRead, Refusal>> for PlannerParamsRead {
+    ghost from_gives = { λ found answer. read_answer answer (params_read_of found) };
+
+    fn from(found: Result<ParamsRead, Refusal>) -> PlannerParamsRead {
+        match found {
+            Ok(read) => PlannerParamsRead {
+                kind: KIND_GIVEN,
+                number: 0,
+                place: 0,
+                next: read.next,
+                params: read.params,
+            },
+            Err(refusal) => PlannerParamsRead {
+                kind: KIND_REFUSED,
+                number: u64::from(refusal.number()),
+                place: refusal.place() as u64,
+                ..PlannerParamsRead::default()
+            },
+        }
     }
 }
 
-// The next bit position as a struct.
-pub fn as_position(position: Position) -> PlannerPosition
-    ensures { result ≡ position_answer (position_of position) }
-{
-    match position {
-        Position::Next(next) => PlannerPosition {
-            kind: KIND_GIVEN,
-            number: 0,
-            place: 0,
-            next,
-        },
-        Position::Refused(number, place) => PlannerPosition {
-            kind: KIND_REFUSED,
-            number: number as u64,
-            place: place as u64,
-            next: 0,
-        },
+impl From<Result<u64, Refusal>> for PlannerPosition {
+    ghost from_gives = { λ next answer. answer ≡ position_answer (answer_by (λ p. p) next) };
+
+    fn from(next: Result<u64, Refusal>) -> PlannerPosition {
+        match next {
+            Ok(next) => PlannerPosition {
+                kind: KIND_GIVEN,
+                next,
+                ..PlannerPosition::default()
+            },
+            Err(refusal) => PlannerPosition {
+                kind: KIND_REFUSED,
+                number: u64::from(refusal.number()),
+                place: refusal.place() as u64,
+                ..PlannerPosition::default()
+            },
+        }
     }
 }
 
-// How many bits a record takes as a struct.
-pub fn as_length(length: Length) -> PlannerLength
-    ensures { result ≡ length_answer (length_of length) }
-{
-    match length {
-        Length::Bits(bits) => PlannerLength {
-            kind: KIND_GIVEN,
-            number: 0,
-            place: 0,
-            bits,
-        },
-        Length::Refused(number, place) => PlannerLength {
-            kind: KIND_REFUSED,
-            number: number as u64,
-            place: place as u64,
-            bits: 0,
-        },
+impl From<Result<u64, Refusal>> for PlannerLength {
+    ghost from_gives = { λ length answer. answer ≡ length_answer (answer_by (λ n. n) length) };
+
+    fn from(length: Result<u64, Refusal>) -> PlannerLength {
+        match length {
+            Ok(bits) => PlannerLength {
+                kind: KIND_GIVEN,
+                bits,
+                ..PlannerLength::default()
+            },
+            Err(refusal) => PlannerLength {
+                kind: KIND_REFUSED,
+                number: u64::from(refusal.number()),
+                place: refusal.place() as u64,
+                ..PlannerLength::default()
+            },
+        }
     }
 }
 
-// Rate and size of a row as a struct.
-pub fn as_row(row: ParamsRow) -> PlannerRow
-    ensures { result ≡ row_answer (params_row_of row) }
-{
-    match row {
-        ParamsRow::Row(rate, size) => PlannerRow {
-            kind: KIND_GIVEN,
-            number: 0,
-            place: 0,
-            rate,
-            size,
-        },
-        ParamsRow::Refused(number, place) => PlannerRow {
-            kind: KIND_REFUSED,
-            number: number as u64,
-            place: place as u64,
-            rate: 0,
-            size: 0,
-        },
+impl From<Result<Row, Refusal>> for PlannerRow {
+    ghost from_gives = { λ row answer. answer ≡ row_answer (params_row_of row) };
+
+    fn from(row: Result<Row, Refusal>) -> PlannerRow {
+        match row {
+            Ok(Row { rate, size }) => PlannerRow {
+                kind: KIND_GIVEN,
+                rate,
+                size,
+                ..PlannerRow::default()
+            },
+            Err(refusal) => PlannerRow {
+                kind: KIND_REFUSED,
+                number: u64::from(refusal.number()),
+                place: refusal.place() as u64,
+                ..PlannerRow::default()
+            },
+        }
     }
 }

@@ -3,12 +3,13 @@ ghost use Rattle.std.specs.Prelude.{◌≡◌};
 ghost use Rattle.panel.specs.Outcome.{timed_of, reading_of};
 ghost use Rattle.answers.specs.Seconds.{seconds_answer, reading_answer};
 
-use panel::{Reading, Timed};
+use judgement::Refusal;
+use panel::{Reading, Seconds};
 use rules::{KIND_GIVEN, KIND_OVER, KIND_REFUSED, KIND_WITHIN};
 
 // Wait and fill time, or refused.
 #[repr(C)]
-#[derive(Drop)]
+#[derive(Clone, Copy, Debug, Default, PartialEq)]
 pub struct PlannerSeconds {
     pub kind: u64,
     pub number: u64,
@@ -19,7 +20,7 @@ pub struct PlannerSeconds {
 
 // Within the limit, which is then 0; over it; or refused.
 #[repr(C)]
-#[derive(Drop)]
+#[derive(Clone, Copy, Debug, Default, PartialEq)]
 pub struct PlannerPanelReading {
     pub kind: u64,
     pub number: u64,
@@ -28,53 +29,49 @@ pub struct PlannerPanelReading {
     pub limit: f64,
 }
 
-// The seconds of a bucket as a struct.
-pub fn as_seconds(timed: Timed) -> PlannerSeconds
-    ensures { result ≡ seconds_answer (timed_of timed) }
-{
-    match timed {
-        Timed::Took(s) => PlannerSeconds {
-            kind: KIND_GIVEN,
-            number: 0,
-            place: 0,
-            wait: s.wait,
-            fill: s.fill,
-        },
-        Timed::Refused(number, place) => PlannerSeconds {
-            kind: KIND_REFUSED,
-            number: number as u64,
-            place: place as u64,
-            wait: 0.0,
-            fill: 0.0,
-        },
+impl From<Result<Seconds, Refusal>> for PlannerSeconds {
+    ghost from_gives = { λ timed answer. answer ≡ seconds_answer (timed_of timed) };
+
+    fn from(timed: Result<Seconds, Refusal>) -> PlannerSeconds {
+        match timed {
+            Ok(Seconds { wait, fill }) => PlannerSeconds {
+                kind: KIND_GIVEN,
+                wait,
+                fill,
+                ..PlannerSeconds::default()
+            },
+            Err(refusal) => PlannerSeconds {
+                kind: KIND_REFUSED,
+                number: u64::from(refusal.number()),
+                place: refusal.place() as u64,
+                ..PlannerSeconds::default()
+            },
+        }
     }
 }
 
-// A panel reading as a struct.
-pub fn as_reading(reading: Reading) -> PlannerPanelReading
-    ensures { result ≡ reading_answer (reading_of reading) }
-{
-    match reading {
-        Reading::Within(wait) => PlannerPanelReading {
-            kind: KIND_WITHIN,
-            number: 0,
-            place: 0,
-            wait,
-            limit: 0.0,
-        },
-        Reading::Over(wait, limit) => PlannerPanelReading {
-            kind: KIND_OVER,
-            number: 0,
-            place: 0,
-            wait,
-            limit,
-        },
-        Reading::Refused(number, place) => PlannerPanelReading {
-            kind: KIND_REFUSED,
-            number: number as u64,
-            place: place as u64,
-            wait: 0.0,
-            limit: 0.0,
-        },
+impl From<Result<Reading, Refusal>> for PlannerPanelReading {
+    ghost from_gives = { λ reading answer. answer ≡ reading_answer (reading_of reading) };
+
+    fn from(reading: Result<Reading, Refusal>) -> PlannerPanelReading {
+        match reading {
+            Ok(Reading::Within(wait)) => PlannerPanelReading {
+                kind: KIND_WITHIN,
+                wait,
+                ..PlannerPanelReading::default()
+            },
+            Ok(Reading::Over(wait, limit)) => PlannerPanelReading {
+                kind: KIND_OVER,
+                wait,
+                limit,
+                ..PlannerPanelReading::default()
+            },
+            Err(refusal) => PlannerPanelReading {
+                kind: KIND_REFUSED,
+                number: u64::from(refusal.number()),
+                place: refusal.place() as u64,
+                ..PlannerPanelReading::default()
+            },
+        }
     }
 }

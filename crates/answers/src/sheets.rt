@@ -1,17 +1,17 @@
 // Sheets and their text, as C and Rust see them. Serves document 01, "The sheet and the printed table".
 ghost use Rattle.std.specs.Prelude.{◌≡◌};
 ghost use Rattle.sheet.specs.Outcome.{opened_of};
-ghost use Rattle.print.specs.Outcome.{output_of, printed_of};
-ghost use Rattle.answers.specs.Sheets.{sheet_answer, text_on, text_answer};
+ghost use Rattle.print.specs.Outcome.{printed_of};
+ghost use Rattle.answers.specs.Sheets.{sheet_answer, text_answer};
 
-use judgement::Judgement;
-use print::{Output, Printed};
+use judgement::Refusal;
+use print::Output;
 use rules::{KIND_GIVEN, KIND_LINE, KIND_REFUSED, KIND_TABLE};
-use sheet::Opened;
+use sheet::Head;
 
 // How many pictures and rates a sheet has, and its clock, or refused.
 #[repr(C)]
-#[derive(Drop)]
+#[derive(Clone, Copy, Debug, Default, PartialEq, Eq)]
 pub struct PlannerSheet {
     pub kind: u64,
     pub number: u64,
@@ -25,7 +25,7 @@ pub struct PlannerSheet {
 // How many bytes were printed: of the sheet's table, or of the line of its refusal, with that refusal's number and
 // place; or refused.
 #[repr(C)]
-#[derive(Drop)]
+#[derive(Clone, Copy, Debug, Default, PartialEq, Eq)]
 pub struct PlannerText {
     pub kind: u64,
     pub number: u64,
@@ -35,70 +35,58 @@ pub struct PlannerText {
     pub sheet_place: u64,
 }
 
-// What an opened sheet says as a struct.
-pub fn as_sheet(opened: Opened) -> PlannerSheet
-    ensures { result ≡ sheet_answer (opened_of opened) }
-{
-    match opened {
-        Opened::Sheet(head) => PlannerSheet {
-            kind: KIND_GIVEN,
-            number: 0,
-            place: 0,
-            pictures: head.pictures as u64,
-            rates: head.rates as u64,
-            ts: head.ts,
-            nu: head.nu,
-        },
-        Opened::Refused(number, place) => PlannerSheet {
-            kind: KIND_REFUSED,
-            number: number as u64,
-            place: place as u64,
-            pictures: 0,
-            rates: 0,
-            ts: 0,
-            nu: 0,
-        },
+impl From<Result<Head, Refusal>> for PlannerSheet {
+    ghost from_gives = { λ opened answer. answer ≡ sheet_answer (opened_of opened) };
+
+    fn from(opened: Result<Head, Refusal>) -> PlannerSheet {
+        match opened {
+            Ok(head) => PlannerSheet {
+                kind: KIND_GIVEN,
+                pictures: head.pictures as u64,
+                rates: head.rates as u64,
+                ts: head.ts,
+                nu: head.nu,
+                ..PlannerSheet::default()
+            },
+            Err(refusal) => PlannerSheet {
+                kind: KIND_REFUSED,
+                number: u64::from(refusal.number()),
+                place: refusal.place() as u64,
+                ..PlannerSheet::default()
+            },
+        }
     }
 }
 
-// A table or a refusal line as a struct.
-fn as_output(output: Output) -> PlannerText
-    ensures { result ≡ text_on (output_of output) }
-{
-    let judged = output.judged;
-    match judged {
-        Judgement::Passed => PlannerText {
-            kind: KIND_TABLE,
-            number: 0,
-            place: 0,
-            length: output.end as u64,
-            sheet_number: 0,
-            sheet_place: 0,
-        },
-        Judgement::Refused(number, place) => PlannerText {
-            kind: KIND_LINE,
-            number: 0,
-            place: 0,
-            length: output.end as u64,
-            sheet_number: number as u64,
-            sheet_place: place as u64,
-        },
-    }
-}
+impl From<Result<Output, Refusal>> for PlannerText {
+    ghost from_gives = { λ printed answer. answer ≡ text_answer (printed_of printed) };
 
-// What was printed as a struct.
-pub fn as_text(printed: Printed) -> PlannerText
-    ensures { result ≡ text_answer (printed_of printed) }
-{
-    match printed {
-        Printed::Text(output) => as_output(output),
-        Printed::Refused(number, place) => PlannerText {
-            kind: KIND_REFUSED,
-            number: number as u64,
-            place: place as u64,
-            length: 0,
-            sheet_number: 0,
-            sheet_place: 0,
-        },
+    fn from(printed: Result<Output, Refusal>) -> PlannerText {
+        match printed {
+            Ok(Output {
+                end,
+                judged: Ok(()),
+            }) => PlannerText {
+                kind: KIND_TABLE,
+                length: end as u64,
+                ..PlannerText::default()
+            },
+            Ok(Output {
+                end,
+                judged: Err(refusal),
+            }) => PlannerText {
+                kind: KIND_LINE,
+                length: end as u64,
+                sheet_number: u64::from(refusal.number()),
+                sheet_place: refusal.place() as u64,
+                ..PlannerText::default()
+            },
+            Err(refusal) => PlannerText {
+                kind: KIND_REFUSED,
+                number: u64::from(refusal.number()),
+                place: refusal.place() as u64,
+                ..PlannerText::default()
+            },
+        }
     }
 }

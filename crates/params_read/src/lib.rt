@@ -21,7 +21,7 @@ use rules::CPB_CNT_MAX;
 use std::array;
 
 // A record that was read, and the position after it.
-#[derive(Clone, Copy)]
+#[derive(Clone, Copy, Debug, PartialEq, Eq)]
 pub struct ParamsRead {
     pub next: u64,
     pub params: Params,

@@ -1,2 +1,1 @@
-mod TellLaws
 pub mod Unique

@@ -4,14 +4,17 @@ ghost use Rattle.model.specs.Recording.{recording};
 ghost use Rattle.model.specs.Lookup.{table};
 ghost use Rattle.planner.specs.Figures.{ExportedLeast, ExportedTable, ExportedLookup};
 
-use answers::figures::{PlannerBucket, as_found, as_least, as_table};
+use answers::figures::PlannerBucket;
 use answers::recordings::PlannerJudgement;
+use lookup::Table;
+use recording::Recording;
 
 // The least figures of a recording at one rate.
 pub fn planner_least(sizes: &[u64], ticks: &[u64], ts: u64, nu: u64, rate: u64) -> PlannerBucket
     ensures { ExportedLeast (recording sizes.now ticks.now ts nu) rate result }
 {
-    as_least(least::least(sizes, ticks, ts, nu, rate))
+    let recording = Recording { sizes, ticks, ts, nu };
+    PlannerBucket::from(least::least(recording, rate))
 }
 
 // Writes the least figures at every rate of a list to two lent lists from entry `at` on.
@@ -27,7 +30,8 @@ pub fn planner_table(
 ) -> PlannerJudgement
     ensures { ExportedTable (recording sizes.now ticks.now ts nu) rates.now at buffers.old fullnesses.old result buffers.new fullnesses.new }
 {
-    as_table(least::table(sizes, ticks, ts, nu, rates, at, buffers, fullnesses))
+    let recording = Recording { sizes, ticks, ts, nu };
+    PlannerJudgement::from(least::table(recording, rates, at, buffers, fullnesses))
 }
 
 // Buffer and start fullness for any rate, from a table that is handed in.
@@ -42,5 +46,6 @@ pub fn planner_look_up(
 ) -> PlannerBucket
     ensures { ExportedLookup (table rates.now buffers.now fullnesses.now ts nu span) rate result }
 {
-    as_found(lookup::look_up(rates, buffers, fullnesses, ts, nu, span, rate))
+    let table = Table { rates, buffers, fullnesses, ts, nu, span };
+    PlannerBucket::from(lookup::look_up(table, rate))
 }

@@ -3,13 +3,14 @@ ghost use Rattle.model.specs.Recording.{recording};
 ghost use Rattle.model.specs.Arrival.{bucket};
 ghost use Rattle.planner.specs.Recordings.{ExportedJudge, ExportedVerdict, ExportedSchedule};
 
-use answers::recordings::{PlannerJudgement, PlannerVerdict, as_judgement, as_verdict};
+use answers::recordings::{PlannerJudgement, PlannerVerdict};
+use recording::{Bucket, Recording};
 
 // Judges a recording and its clock.
 pub fn planner_judge(sizes: &[u64], ticks: &[u64], ts: u64, nu: u64) -> PlannerJudgement
     ensures { ExportedJudge (recording sizes.now ticks.now ts nu) result }
 {
-    as_judgement(judging::judge(sizes, ticks, ts, nu))
+    PlannerJudgement::from(judging::judge(Recording { sizes, ticks, ts, nu }))
 }
 
 // The verdict of R, B and F.
@@ -24,7 +25,9 @@ pub fn planner_verdict(
 ) -> PlannerVerdict
     ensures { ExportedVerdict (recording sizes.now ticks.now ts nu) (bucket rate buffer fullness) result }
 {
-    as_verdict(schedule::bucket_verdict(sizes, ticks, ts, nu, rate, buffer, fullness))
+    let recording = Recording { sizes, ticks, ts, nu };
+    let bucket = Bucket { rate, buffer, fullness };
+    PlannerVerdict::from(schedule::bucket_verdict(recording, bucket))
 }
 
 // Writes the schedule to two lent lists from entry `at` on, late or not, and answers the verdict.
@@ -42,8 +45,7 @@ pub fn planner_schedule(
 ) -> PlannerVerdict
     ensures { ExportedSchedule (recording sizes.now ticks.now ts nu) (bucket rate buffer fullness) at starts.old ends.old result starts.new ends.new }
 {
-    let verdict = schedule::schedule(
-        sizes, ticks, ts, nu, rate, buffer, fullness, at, starts, ends,
-    );
-    as_verdict(verdict)
+    let recording = Recording { sizes, ticks, ts, nu };
+    let bucket = Bucket { rate, buffer, fullness };
+    PlannerVerdict::from(schedule::schedule(recording, bucket, at, starts, ends))
 }

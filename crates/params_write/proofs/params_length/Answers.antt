@@ -1,9 +1,9 @@
 -- `params_write::params_length` meets its contract: the bits of the fields, each at most 63, are those of the record.
 -- Assumes nothing.
-use Prim.Native.Nat.{ℕ, zero, suc, ◌+◌, ◌*◌, ◌^◌, ◌≤◌}
+use Prim.Native.Nat.{ℕ, zero, suc, ◌+◌, ◌*◌, ◌^◌, ◌<◌}
 use native.Mathlib.Numerals.{add-one}
 use native.Mathlib.Omega.{arith}
-use mathlib.Core.Path.{◌≡◌, refl, ap, subst, ◌∙◌}
+use mathlib.Core.Path.{◌≡◌, ap, subst, ◌∙◌}
 use mathlib.Core.List.{map}
 use lib.ListN.{length}
 use borrow.Author.Rules.{rules}
@@ -18,29 +18,18 @@ use Rattle.params.specs.Outcome.{params_of}
 use Rattle.params_write.proofs.WriteLaws.{field_bits, bits_left, bits-none, length-more}
 use Rattle.params_write.proofs.params_length.Goals as goal
 
--- the bits of the first n fields
-lengths : Params → (n : ℕ) → ℕ
-lengths p n = sum (map (λ f. length (field_bits p f)) (range_with_len 0 n))
-
-lengths-none : (p : Params) → lengths p 0 ≡ 0
-unfolding lengths
-lengths-none p = refl
-
-lengths-more : (p : Params) (n : ℕ) → lengths p (n + 1) ≡ lengths p n + length (field_bits p n)
-unfolding lengths
-lengths-more p n = sum_by-map-range_with_len_more (λ x. x) (λ f. length (field_bits p f)) 0 n n (omega arith)
-
-lengths-left : (p : Params) (n : ℕ) → n ≤ 3 + 3 * p.cpb_cnt + 4 → lengths p n + length (bits_left p n) ≡ length (params_bits p)
-lengths-left p zero h = omega (arith, lengths-none p)
-lengths-left p (suc n) h =
-    subst (λ m. lengths p m + length (bits_left p m) ≡ length (params_bits p)) (add-one n)
-    (omega (arith, lengths-more p n, lengths-left p n (omega arith), length-more p n h))
+-- what is left falls by each part
+sum-left : (part left : ℕ → ℕ) (n : ℕ) → ((f : ℕ) → f < n → left f ≡ part f + left (f + 1)) → sum (map part (range_with_len 0 n)) + left n ≡ left 0
+sum-left part left zero falls = omega arith
+sum-left part left (suc n) falls =
+    subst (λ m. sum (map part (range_with_len 0 m)) + left m ≡ left 0) (add-one n)
+    (omega (arith, sum_by-map-range_with_len_more (λ x. x) part 0 n n (omega arith), sum-left part left n (λ f h. falls f (omega arith)), falls n (omega arith)))
 
 whole : (p : Params) → sum (map (λ f. length (field_bits p f)) (range_with_len 0 (3 + 3 * p.cpb_cnt + 4))) ≡ length (params_bits p)
-unfolding lengths
 whole p =
     let n = 3 + 3 * p.cpb_cnt + 4 in
-    omega (arith, lengths-left p n (omega arith), ap length (bits-none p n (omega arith)))
+    omega
+    (arith, sum-left (λ f. length (field_bits p f)) (λ f. length (bits_left p f)) n (λ f h. length-more p f h), ap length (bits-none p n (omega arith)))
 
 pub sum-requires-clause-can : goal.sum-requires-clause-can
 sum-requires-clause-can c = (tt, serves_from_Range (λ x q k. search rules) (λ x g l. search rules))
