@@ -63,18 +63,22 @@ impl From<Result<Output, Refusal>> for PlannerText {
 
     fn from(printed: Result<Output, Refusal>) -> PlannerText {
         match printed {
-            Ok(Output {
-                end,
-                judged: Ok(()),
-            }) => PlannerText {
+            Ok(
+                Output {
+                    end,
+                    judged: Ok(()),
+                },
+            ) => PlannerText {
                 kind: KIND_TABLE,
                 length: end as u64,
                 ..PlannerText::default()
             },
-            Ok(Output {
-                end,
-                judged: Err(refusal),
-            }) => PlannerText {
+            Ok(
+                Output {
+                    end,
+                    judged: Err(refusal),
+                },
+            ) => PlannerText {
                 kind: KIND_LINE,
                 length: end as u64,
                 sheet_number: u64::from(refusal.number()),

@@ -8,6 +8,7 @@ use Prim.Native.Nat.{ℕ}
 use mathlib.Core.Path.{◌≡◌, refl, sym, ap, ◌∙◌}
 use mathlib.Core.Logic.Iff
 use mathlib.Core.Logic.{◌↔◌}
+use Rattle.std.specs.Prelude.{Result, Ok, Err}
 use Rattle.rules.specs.Limits.{bucket_max}
 use Rattle.rules.specs.Refusals as refusal
 use Rattle.terms.specs.Numbers.{outside}
@@ -25,20 +26,21 @@ use Rattle.terms.proofs.NumbersLaws.{or-false, outside-false}
 use Rattle.terms.proofs.AnswersLaws.{refuse_if-passed, first-passed, lowest-each, lowest-passed, answer-given, answer-passed}
 use Rattle.model.proofs.FaultsLaws.{judge_outcome-within, within-recorded}
 use Rattle.model.proofs.Demand2.{demand2}
+use Rattle.judgement.specs.declared.Refusal.{Refusal}
 use Rattle.schedule.specs.Outcome.{answer_of}
 use Rattle.schedule.specs.declared.Verdict.{Verdict}
-use Rattle.schedule.specs.declared.Verdict.TheVariants as verdict
+use Rattle.schedule.specs.declared.Verdict.TheVariants.{Holds, Late}
 use Rattle.schedule.proofs.Unique.{answer_of-one}
 use Rattle.least.specs.Promises.{LeastPromise}
-use Rattle.least.specs.declared.Figures.TheVariants as figures
+use Rattle.demands.specs.Given.{figures}
 use Rattle.demands.specs.Demand2.{Exactly, Judged, Demand2Answers, Demand2Schedule, Demand2Row, Demand2ParamsRow}
 use Rattle.demands.proofs.Promised.{least-promised, verdict-promised}
 
 -- the code's "holds" is the definition's
-holds-said : (k : Recording) (u : Bucket) (v : Verdict) → answer_of v ≡ given (verdict_of k u) → (v ≡ verdict.Holds) ↔ (verdict_of k u ≡ holds)
+holds-said : (k : Recording) (u : Bucket) (v : Result Verdict Refusal) → answer_of v ≡ given (verdict_of k u) → (v ≡ Ok Holds) ↔ (verdict_of k u ≡ holds)
 holds-said k u v p = (
   λ e. let said : given (verdict_of k u) ≡ given holds = sym p ∙ ap answer_of e in cc,
-  λ e. answer_of-one v verdict.Holds (p ∙ ap given e),
+  λ e. answer_of-one v (Ok Holds) (p ∙ ap given e),
 )
 
 pub demand2-answers : Demand2Answers
@@ -52,14 +54,14 @@ demand2-answers k rate b f least_b least_f v ok pv pl =
     (Iff.trans (holds-said k u v (pv ∙ verdict-promised k u said.judged said.rated ok)) (demand2 k rec rate b f some within))
 
 -- a verdict that is no refusal is the definition's, and its judgement has passed
-judged-passed : (j : Judgement) (x : arrival.Verdict) (v : Verdict) → Judged v → answer_of v ≡ answer_with j x → (j ≡ passed) × (answer_of v ≡ given x)
-judged-passed j x verdict.Holds h e = let (ok, same) = answer-passed j x holds (sym e) in (ok, ap given (sym same))
-judged-passed j x (verdict.Late picture units) h e = let (ok, same) = answer-passed j x (arrival.late picture units) (sym e) in (ok, ap given (sym same))
-judged-passed j x (verdict.Refused n i) h e = absurd (h n i refl)
+judged-passed : (j : Judgement) (x : arrival.Verdict) (v : Result Verdict Refusal) → Judged v → answer_of v ≡ answer_with j x → (j ≡ passed) × (answer_of v ≡ given x)
+judged-passed j x (Ok Holds) h e = let (ok, same) = answer-passed j x holds (sym e) in (ok, ap given (sym same))
+judged-passed j x (Ok (Late picture units)) h e = let (ok, same) = answer-passed j x (arrival.late picture units) (sym e) in (ok, ap given (sym same))
+judged-passed j x (Err r) h e = absurd (h r refl)
 
 -- what passes for a verdict has a bucket, so that demand 2 speaks of it
-same-sentence : (k : Recording) (rate b f least_b least_f : ℕ) (v : Verdict) → lowest (verdict_faults k (bucket rate b f)) ≡ passed
-    → answer_of v ≡ given (verdict_of k (bucket rate b f)) → LeastPromise k rate (figures.Least least_b least_f) → Exactly v b f least_b least_f
+same-sentence : (k : Recording) (rate b f least_b least_f : ℕ) (v : Result Verdict Refusal) → lowest (verdict_faults k (bucket rate b f)) ≡ passed
+    → answer_of v ≡ given (verdict_of k (bucket rate b f)) → LeastPromise k rate (figures rate least_b least_f) → Exactly v b f least_b least_f
 same-sentence k rate b f least_b least_f v ok said least =
     let u = bucket rate b f in
     let (_, parts) = lowest-each (recording_faults k) (seconds_faults u) ok in
@@ -73,7 +75,7 @@ demand2-schedule k rate b f at least_b least_f l m starts ends v p judged least 
     same-sentence k rate b f least_b least_f v (lowest-each (verdict_faults k u) _ ok).0 said least
 
 -- a row's verdict that is no refusal is the verdict on the row's bucket
-row-said : (k : Recording) (params : Params) (row f : ℕ) (v : Verdict) → RowPromise k params row f v → Judged v
+row-said : (k : Recording) (params : Params) (row f : ℕ) (v : Result Verdict Refusal) → RowPromise k params row f v → Judged v
     → let u = row_bucket (params_of params) row f in (lowest (verdict_faults k u) ≡ passed) × (answer_of v ≡ given (verdict_of k u))
 row-said k params row f v p judged =
     let q = params_of params in

@@ -34,8 +34,8 @@ use Rattle.model.proofs.LeastLaws.{least_fullness-some, least_buffer-limit}
 use Rattle.model.proofs.LookupLaws.{figure_at-on, figure_at-between}
 use Rattle.model.proofs.Demand3.{demand3-holds, demand3-excess}
 use Rattle.lookup.specs.Promises.{LookupPromise}
-use Rattle.lookup.specs.declared.Found.TheVariants as found
 use Rattle.lookup.proofs.Unique.{found_of-one}
+use Rattle.demands.specs.Given.{figures}
 use Rattle.demands.specs.Demand3.{Demand3Answers, Demand3Table}
 use Rattle.demands.proofs.Promised.{least-promised, least-promise, figures-row, table-promised, a-bucket, least-bucket, verdict-promised}
 
@@ -62,7 +62,7 @@ record LookupSaid (w : Table) (r b f : ℕ) : Type 0 where
   buffer : b ≡ figure_at (axis_of w) w.buffers r
   fullness : f ≡ figure_at (axis_of w) w.fullnesses r
 
-lookup-said : (w : Table) (r b f : ℕ) → LookupPromise w r (found.Bucket b f) → LookupSaid w r b f
+lookup-said : (w : Table) (r b f : ℕ) → LookupPromise w r (figures r b f) → LookupSaid w r b f
 lookup-said w r b f p =
     let (ok, same) = answer-passed (lowest (lookup_faults w r)) (lookup_of w r) (bucket r b f) (sym p) in
     let (_, (_, (_, (listed, _)))) = (lowest-passed (lookup_faults w r)).0 ok in
@@ -150,4 +150,4 @@ demand3-table k rates l m buffers fullnesses hl hm p i r h lo hi a q =
     let gives = answer-given (lookup_of w r) (lookup-passed k rates said.judged said.counted said.listed r rated) in
     let b = figure_at (axis_of w) w.buffers r in
     let f = figure_at (axis_of w) w.fullnesses r in
-    (b, f, found_of-one r a (found.Bucket b f) (rw (bs, fs) at q ∙ gives), demand3-answers k w i r b f h (row i (le_of_lt h)) (row (suc i) h) lo hi (sym gives))
+    (b, f, found_of-one a (figures r b f) (rw (bs, fs) at q ∙ gives), demand3-answers k w i r b f h (row i (le_of_lt h)) (row (suc i) h) lo hi (sym gives))

@@ -10,10 +10,11 @@ use Prim.Native.Nat.{ℕ, ◌+◌, ◌≤◌, ◌<◌}
 use mathlib.Core.Path.{◌≡◌, refl, sym, ap, ◌∙◌}
 use mathlib.Core.List.{List, [], ◌∷◌, map}
 use lib.ListN.{length, get_or, take, length-map}
+use Rattle.std.specs.Prelude.{Ok}
 use Rattle.terms.specs.Numbers.{written}
 use Rattle.terms.specs.Answers.{passed, refused, first}
 use Rattle.terms.proofs.NumbersLaws.{written-at, written-front}
-use Rattle.terms.proofs.AnswersLaws.{or_else-passed, first-passed, first-append, answer-passed, lowest-each, lowest-passed}
+use Rattle.terms.proofs.AnswersLaws.{or_else-passed, first-passed, first-append, answer-passed, answer-refused, lowest-each, lowest-passed}
 use Rattle.model.specs.Recording.{Recording}
 use Rattle.model.specs.Least.{least_buffer, least_fullness}
 use Rattle.model.specs.Faults.{rate_list_check, recording_faults}
@@ -21,16 +22,12 @@ use Rattle.model.specs.Outcomes.{judge_outcome}
 use Rattle.layout.specs.Sheet as sheet
 use Rattle.layout.specs.Sheet.{sheet_rates, sheet_recording, sheet_faults, open_faults, least_text, sheet_text}
 use Rattle.sheet.specs.declared.Head.{Head}
-use Rattle.sheet.specs.declared.Opened.TheVariants as opened
 use Rattle.sheet.specs.Outcome.{head_of}
 use Rattle.sheet.specs.Promises.{OpenPromise}
-use Rattle.sheet.proofs.Unique.{open-unique}
 use Rattle.sheet.proofs.OpenLaws.{rooms, head-pictures, head-rates, recording-read, rates-read}
 use Rattle.print.specs.declared.Output.{Output}
-use Rattle.print.specs.declared.Printed.TheVariants as printed
 use Rattle.print.specs.Promises.{PrintPromise}
 use Rattle.print.proofs.PrintLaws.{front, output-printed}
-use Rattle.judgement.specs.Outcome.{judgement_of}
 use Rattle.demands.specs.Demand1.{Demand1Line}
 use Rattle.demands.specs.Demand2.{Demand2Table, Demand2Print}
 use Rattle.demands.proofs.Promised.{figures-row, table-promised}
@@ -61,7 +58,7 @@ sheet-said bytes ok =
     let (judged, rest) = lowest-each (recording_faults (sheet_recording bytes)) rated ((first-passed (sheet_faults bytes)).0 ok).1.1.1.1.0 in
     record { judged = judged; listed = ((lowest-passed rated).0 rest).0; text = rw ok }
 
-pub sheet-promised : (bytes l m o sizes ticks rates : List ℕ) (head : Head) → OpenPromise bytes l m o (opened.Sheet head) sizes ticks rates
+pub sheet-promised : (bytes l m o sizes ticks rates : List ℕ) (head : Head) → OpenPromise bytes l m o (Ok head) sizes ticks rates
     → SheetSaid bytes (front sizes ticks head) (take head.rates rates)
 sheet-promised bytes l m o sizes ticks rates head p =
     let room = rooms bytes l m o in
@@ -73,9 +70,9 @@ sheet-promised bytes l m o sizes ticks rates head p =
     rw (whole, listed)
     (sheet-said bytes ((or_else-passed (first (sheet_faults bytes)) (first room)).0 (sym (first-append (sheet_faults bytes) room) ∙ ok)).0)
 
-pub text-promised : (bytes before text : List ℕ) (output : Output) → PrintPromise bytes before (printed.Text output) text → take output.end text ≡ sheet_text bytes
+pub text-promised : (bytes before text : List ℕ) (output : Output) → PrintPromise bytes before (Ok output) text → take output.end text ≡ sheet_text bytes
 text-promised bytes before text output p =
-    let (ok, same) = output-printed bytes before text (printed.Text output) output p refl in
+    let (ok, same) = output-printed bytes before text (Ok output) output p refl in
     written-front before text (sheet_text bytes) output.end (ap (λ (t : sheet.Printed). t.text) p ∙ rw ok) (ap (λ (t : sheet.Output). t.end) same)
 
 pub demand2-print : Demand2Print
@@ -92,7 +89,7 @@ demand2-print bytes l m o sizes ticks rates before text head output p q =
 
 pub demand1-line : Demand1Line
 demand1-line bytes before text l m o sizes ticks rates output n i a p said q =
-    let (_, same) = output-printed bytes before text (printed.Text output) output p refl in
-    let refuses : first (sheet_faults bytes) ≡ refused n i = ap (λ (t : sheet.Output). t.judged) same ∙ ap judgement_of said in
+    let (_, same) = output-printed bytes before text (Ok output) output p refl in
+    let refuses : first (sheet_faults bytes) ≡ refused n i = ap (λ (t : sheet.Output). t.judged) same ∙ said in
     let opens : first (open_faults bytes l m o) ≡ refused n i = first-append (sheet_faults bytes) (rooms bytes l m o) ∙ rw refuses in
-    (open-unique bytes l m o a (opened.Refused n i) sizes ticks rates l m o q (rw opens)).0
+    ap (λ (t : sheet.Opened). t.answer) q ∙ answer-refused (sheet.head_of bytes) opens

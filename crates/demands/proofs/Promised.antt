@@ -12,6 +12,7 @@ use mathlib.Core.Path.{◌≡◌, sym, ap, ◌∙◌}
 use mathlib.Core.Bool.{false}
 use mathlib.Core.List.{List, [], ◌∷◌, ◌++◌, map}
 use lib.ListN.{length, get_or}
+use Rattle.std.specs.Prelude.{Ok}
 use Rattle.rules.specs.Limits.{rate_max, bucket_max}
 use Rattle.rules.specs.Refusals as refusal
 use Rattle.terms.specs.Numbers.{outside, written}
@@ -27,8 +28,7 @@ use Rattle.model.specs.Outcomes.{judge_outcome, verdict_outcome}
 use Rattle.model.proofs.FaultsLaws.{rate_list-within, within-recorded}
 use Rattle.model.proofs.LeastLaws.{least_fullness-buffer, least_fullness-some, least_buffer-limit}
 use Rattle.least.specs.Promises.{LeastPromise, TablePromise}
-use Rattle.least.specs.declared.Figures.TheVariants as figures
-use Rattle.least.specs.declared.Tabled.TheVariants as tabled
+use Rattle.demands.specs.Given.{figures}
 
 -- what least figures that are not refused say
 pub record LeastSaid (k : Recording) (rate least_b least_f : ℕ) : Type 0 where
@@ -37,7 +37,7 @@ pub record LeastSaid (k : Recording) (rate least_b least_f : ℕ) : Type 0 where
   pub buffer : least_b ≡ least_buffer k rate
   pub fullness : least_f ≡ least_fullness k rate
 
-pub least-promised : (k : Recording) (rate least_b least_f : ℕ) → LeastPromise k rate (figures.Least least_b least_f) → LeastSaid k rate least_b least_f
+pub least-promised : (k : Recording) (rate least_b least_f : ℕ) → LeastPromise k rate (figures rate least_b least_f) → LeastSaid k rate least_b least_f
 least-promised k rate least_b least_f p =
     let (ok, same) = answer-passed (lowest (least_faults k rate)) (least_bucket k rate) (bucket rate least_b least_f) (sym p) in
     let (judged, rest) = lowest-each (recording_faults k) (rate_check rate ∷ []) ok in
@@ -52,12 +52,12 @@ least-promised k rate least_b least_f p =
 judged-and : (k : Recording) (js : List Judgement) → judge_outcome k ≡ passed → lowest js ≡ passed → lowest (recording_faults k ++ js) ≡ passed
 judged-and k js judged ok = lowest-both (recording_faults k) js ∙ (lower-both (judge_outcome k) (lowest js)).1 (judged, ok)
 
-pub least-promise : (k : Recording) (r : ℕ) → judge_outcome k ≡ passed → bad_rate r ≡ false → LeastPromise k r (figures.Least (least_buffer k r) (least_fullness k r))
+pub least-promise : (k : Recording) (r : ℕ) → judge_outcome k ≡ passed → bad_rate r ≡ false → LeastPromise k r (figures r (least_buffer k r) (least_fullness k r))
 least-promise k r judged rated =
     sym (answer-given (least_bucket k r) (judged-and k (rate_check r ∷ []) judged ((lowest-passed (rate_check r ∷ [])).1 (test-false refusal.rate 0 rated, tt))))
 
 pub figures-row : (k : Recording) (rates : List ℕ) → judge_outcome k ≡ passed → rate_list_check rates ≡ passed → (i : ℕ) → i < length rates
-    → LeastPromise k (get_or rates i 0) (figures.Least (get_or (map (least_buffer k) rates) i 0) (get_or (map (least_fullness k) rates) i 0))
+    → LeastPromise k (get_or rates i 0) (figures (get_or rates i 0) (get_or (map (least_buffer k) rates) i 0) (get_or (map (least_fullness k) rates) i 0))
 figures-row k rates judged listed i h =
     let r = (rate_list-within rates).0 listed in
     rw (map-at (least_buffer k) rates i h, map-at (least_fullness k) rates i h)
@@ -73,7 +73,7 @@ pub record TableSaid (k : Recording) (rates : List ℕ) (at : ℕ) (l m buffers 
   pub buffer : buffers ≡ written l at (map (least_buffer k) rates)
   pub fullness : fullnesses ≡ written m at (map (least_fullness k) rates)
 
-pub table-promised : (k : Recording) (rates : List ℕ) (at : ℕ) (l m buffers fullnesses : List ℕ) → TablePromise k rates at l m tabled.Written buffers fullnesses
+pub table-promised : (k : Recording) (rates : List ℕ) (at : ℕ) (l m buffers fullnesses : List ℕ) → TablePromise k rates at l m (Ok tt) buffers fullnesses
     → TableSaid k rates at l m buffers fullnesses
 table-promised k rates at l m buffers fullnesses p =
     let room = room_faults l m at (length rates) in

@@ -3,7 +3,6 @@
 
 #![tactic(auto)]
 
-use print::Printed;
 use rules::{SHEET_BYTES_MAX, TEXT_MAX};
 
 const STDIN: i32 = 0;
@@ -15,9 +14,7 @@ fn main() {
     let mut bytes = [0u8; SHEET_BYTES_MAX + 1];
     let n = io::read_full(STDIN, &mut bytes);
     let mut text = [0u8; TEXT_MAX];
-    let printed = print::print_sheet(&bytes[..n], &mut text);
-    if let Printed::Text(output) = printed {
-        let end = output.end;
-        io::write_all(STDOUT, &text[..end]);
+    if let Ok(output) = print::print_sheet(&bytes[..n], &mut text) {
+        io::write_all(STDOUT, &text[..output.end]);
     }
 }

@@ -13,7 +13,12 @@ use recording::Recording;
 pub fn planner_least(sizes: &[u64], ticks: &[u64], ts: u64, nu: u64, rate: u64) -> PlannerBucket
     ensures { ExportedLeast (recording sizes.now ticks.now ts nu) rate result }
 {
-    let recording = Recording { sizes, ticks, ts, nu };
+    let recording = Recording {
+        sizes,
+        ticks,
+        ts,
+        nu,
+    };
     PlannerBucket::from(least::least(recording, rate))
 }
 
@@ -30,7 +35,12 @@ pub fn planner_table(
 ) -> PlannerJudgement
     ensures { ExportedTable (recording sizes.now ticks.now ts nu) rates.now at buffers.old fullnesses.old result buffers.new fullnesses.new }
 {
-    let recording = Recording { sizes, ticks, ts, nu };
+    let recording = Recording {
+        sizes,
+        ticks,
+        ts,
+        nu,
+    };
     PlannerJudgement::from(least::table(recording, rates, at, buffers, fullnesses))
 }
 
@@ -46,6 +56,13 @@ pub fn planner_look_up(
 ) -> PlannerBucket
     ensures { ExportedLookup (table rates.now buffers.now fullnesses.now ts nu span) rate result }
 {
-    let table = Table { rates, buffers, fullnesses, ts, nu, span };
+    let table = Table {
+        rates,
+        buffers,
+        fullnesses,
+        ts,
+        nu,
+        span,
+    };
     PlannerBucket::from(lookup::look_up(table, rate))
 }

@@ -10,7 +10,12 @@ use recording::{Bucket, Recording};
 pub fn planner_judge(sizes: &[u64], ticks: &[u64], ts: u64, nu: u64) -> PlannerJudgement
     ensures { ExportedJudge (recording sizes.now ticks.now ts nu) result }
 {
-    PlannerJudgement::from(judging::judge(Recording { sizes, ticks, ts, nu }))
+    PlannerJudgement::from(judging::judge(Recording {
+        sizes,
+        ticks,
+        ts,
+        nu,
+    }))
 }
 
 // The verdict of R, B and F.
@@ -25,8 +30,17 @@ pub fn planner_verdict(
 ) -> PlannerVerdict
     ensures { ExportedVerdict (recording sizes.now ticks.now ts nu) (bucket rate buffer fullness) result }
 {
-    let recording = Recording { sizes, ticks, ts, nu };
-    let bucket = Bucket { rate, buffer, fullness };
+    let recording = Recording {
+        sizes,
+        ticks,
+        ts,
+        nu,
+    };
+    let bucket = Bucket {
+        rate,
+        buffer,
+        fullness,
+    };
     PlannerVerdict::from(schedule::bucket_verdict(recording, bucket))
 }
 
@@ -45,7 +59,16 @@ pub fn planner_schedule(
 ) -> PlannerVerdict
     ensures { ExportedSchedule (recording sizes.now ticks.now ts nu) (bucket rate buffer fullness) at starts.old ends.old result starts.new ends.new }
 {
-    let recording = Recording { sizes, ticks, ts, nu };
-    let bucket = Bucket { rate, buffer, fullness };
+    let recording = Recording {
+        sizes,
+        ticks,
+        ts,
+        nu,
+    };
+    let bucket = Bucket {
+        rate,
+        buffer,
+        fullness,
+    };
     PlannerVerdict::from(schedule::schedule(recording, bucket, at, starts, ends))
 }

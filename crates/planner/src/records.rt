@@ -54,6 +54,11 @@ pub fn planner_row_verdict(
 ) -> PlannerVerdict
     ensures { ExportedRow (recording sizes.now ticks.now ts nu) params row fullness result }
 {
-    let recording = Recording { sizes, ticks, ts, nu };
+    let recording = Recording {
+        sizes,
+        ticks,
+        ts,
+        nu,
+    };
     PlannerVerdict::from(row_verdict::row_verdict(recording, params, row, fullness))
 }

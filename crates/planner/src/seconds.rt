@@ -9,12 +9,23 @@ use recording::Bucket;
 pub fn planner_seconds(rate: u64, buffer: u64, fullness: u64) -> PlannerSeconds
     ensures { ExportedSeconds (bucket rate buffer fullness) result }
 {
-    PlannerSeconds::from(panel::seconds_of(Bucket { rate, buffer, fullness }))
+    PlannerSeconds::from(panel::seconds_of(Bucket {
+        rate,
+        buffer,
+        fullness,
+    }))
 }
 
 // The panel reading of a bucket against the driver's limit.
 pub fn planner_panel(rate: u64, buffer: u64, fullness: u64, limit: f64) -> PlannerPanelReading
     ensures { ExportedPanel (bucket rate buffer fullness) limit result }
 {
-    PlannerPanelReading::from(panel::panel(Bucket { rate, buffer, fullness }, limit))
+    PlannerPanelReading::from(panel::panel(
+        Bucket {
+            rate,
+            buffer,
+            fullness,
+        },
+        limit,
+    ))
 }

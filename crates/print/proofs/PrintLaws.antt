@@ -1,31 +1,35 @@
 -- What is printed of a sheet, step by step as the code does it. Definitions: layout/specs/Sheet.antt, specs/Outcome.antt.
---     table-passed                              a recording and rates that were judged have a table, where there is room for it
---     buffers-written, fullnesses-written       which is what the two lists then have at their front
---     least-fits                                and which fits the room for a text
+--     rows-few, least-fits                      the text of the least figures of a recording and rates that were judged fits the room for a text
+--     table-passed                              they have a table, where there is room for it
+--     table-given                               which is not refused
+--     buffers-written, fullnesses-written       and which is what the two lists then have at their front
+--     Tables, tables                            so of two lists of zeros with room for every table
+--     front                                     the recording at the front of two lists
 --     open-judged                               lists with room for every sheet are never the fault in opening one
 --     judged-refused                            so a sheet that does not open was refused as opening says
 --     Opens                                     a sheet that opens: it passed, its lists stand at the front of the three, were judged there, and their table is printed
 --     opens                                     it is so of each that opens
---     print-fits, print-room                    the text that was put together, and the room for it in a lent list
---     print-refused, print-roomy, print-given   what is printed to that list
+--     sheet-refused, sheet-opens                the same of lists of zeros with room for every sheet
+--     print-given                               a text that was put together is printed to a lent list with room for it
 --     output-printed                            what the answer says of a text is what the sheet comes to, and there was room for it
---     text-printed                              as many bytes as the answer says stand at that list's front
 -- Assumes nothing.
 use Prim.Native.Nat.{ℕ, ◌+◌, ◌*◌, ◌≤◌}
-use native.Mathlib.Nat.{le_trans, lt_of_le_of_lt}
+use native.Mathlib.Nat.{le_of_eq, le_trans, lt_of_le_of_lt}
 use native.Mathlib.Omega.{arith}
 use mathlib.Core.Path.{◌≡◌, refl, sym, ap, ◌∙◌}
 use mathlib.Core.Bool.{false}
 use mathlib.Core.List.{List, [], ◌∷◌, ◌++◌, map}
 use lib.Dec.{lit<}
-use lib.ListN.{length, get_or, take}
+use lib.ListN.{length, get_or, take, replicate, length-map, length-replicate}
+use Rattle.std.specs.Prelude.{Result, Ok, Err}
+use Rattle.std.specs.Result.{IsOk, IsErrAnd}
 use Rattle.rules.specs.Limits.{header_bytes, sheet_pictures_max, rows_max, bucket_max, text_max}
 use Rattle.rules.specs.Refusals as refusal
 use Rattle.terms.specs.Numbers.{written, outside}
 use Rattle.terms.specs.Words.{word_at, words_at}
 use Rattle.terms.specs.Answers.{Answer, Judgement, given, passed, refused, or_else, lowest, first, answer_with, written_if, room_check}
 use Rattle.terms.proofs.NumbersLaws.{map-at, list_of-length, written-front, written-fits, outside-false}
-use Rattle.terms.proofs.AnswersLaws.{refuse_if-passed, or_else-passed, first-passed, first-append, test-false, answer-passed, answer-refuses, lowest-both, lower-both, lowest-each, lowest-passed, room_check-passed}
+use Rattle.terms.proofs.AnswersLaws.{refused-not-passed, refuse_if-passed, or_else-passed, first-passed, first-append, test-false, answer-passed, answer-refuses, lowest-both, lower-both, lowest-each, lowest-passed, room_check-passed}
 use Rattle.model.specs.Recording.{Recording, recording, Within}
 use Rattle.model.specs.Least.{least_buffer, least_fullness}
 use Rattle.model.specs.Faults.{rate_count_check, rate_list_check, recording_faults, rates_faults, room_faults, table_faults}
@@ -33,24 +37,34 @@ use Rattle.model.specs.Outcomes as outcomes
 use Rattle.model.specs.Outcomes.{judge_outcome, table_outcome}
 use Rattle.model.proofs.FaultsLaws.{judge_outcome-within, rate_list-within, within-recorded}
 use Rattle.model.proofs.LeastLaws.{least_fullness-buffer, least_buffer-limit}
+use Rattle.layout.specs.Text.{table_text}
 use Rattle.layout.specs.Sheet as sheet
 use Rattle.layout.specs.Sheet.{picture_count, rate_count, sheet_rates, sheet_recording, header_faults, list_faults, sheet_faults, open_faults, open_outcome, least_text, sheet_text, print_outcome}
 use Rattle.layout.proofs.TextLaws.{table_text-fits}
 use Rattle.layout.proofs.SheetLaws.{Laid, header_faults-laid}
-use Rattle.least.specs.declared.Tabled.{Tabled}
 use Rattle.least.specs.Outcome.{tabled}
 use Rattle.text.specs.Put.{Put}
 use Rattle.words.proofs.FrontLaws.{words-fit}
 use Rattle.sheet.specs.declared.Head.{Head}
-use Rattle.sheet.specs.declared.Opened.{Opened}
-use Rattle.sheet.specs.declared.Opened.TheVariants.{Sheet, Refused}
 use Rattle.sheet.specs.Outcome.{head_of, opened_of, opened}
 use Rattle.sheet.proofs.OpenLaws.{rooms, head-pictures, head-rates, recording-read, rates-read}
-use Rattle.judgement.specs.Outcome.{judgement_of}
+use Rattle.judgement.specs.Outcome.{number_of, place_of, judgement_of}
+use Rattle.judgement.specs.declared.Refusal.{Refusal}
+use Rattle.judgement.proofs.Steps.{stopped, passes as step-passes}
 use Rattle.print.specs.declared.Output.{Output}
-use Rattle.print.specs.declared.Printed.{Printed}
-use Rattle.print.specs.declared.Printed.TheVariants as printed-answer
 use Rattle.print.specs.Outcome.{output_of, printed_of, printed}
+
+is_ok : (r : Result (Unit {0}) Refusal) → judgement_of r ≡ passed → IsOk r
+is_ok (Ok x) e = refl
+is_ok (Err r) e = absurd (refused-not-passed e)
+
+-- a table that was written to the front of two lists: what it says is the text of the recording's least figures, which fits
+pub record Tables (k : Recording) (rates : List ℕ) (r : Result (Unit {0}) Refusal) (buffers fullnesses : List ℕ) : Type 0 where
+  pub given : IsOk r
+  pub buffers_fit : (length rates ≤ length buffers) × (length rates ≡ length (take (length rates) buffers))
+  pub fullnesses_fit : (length rates ≤ length fullnesses) × (length rates ≡ length (take (length rates) fullnesses))
+  pub text : table_text rates (take (length rates) buffers) (take (length rates) fullnesses) ≡ least_text k rates
+  pub fits : length (least_text k rates) ≤ text_max
 
 -- a recording and rates that were judged
 module _ (k : Recording) (rates : List ℕ) (judged : judge_outcome k ≡ passed) (counted : rate_count_check rates ≡ passed) (listed : rate_list_check rates ≡ passed) where
@@ -82,12 +96,28 @@ module _ (k : Recording) (rates : List ℕ) (judged : judge_outcome k ≡ passed
         lowest-both (recording_faults k) faults
         ∙ (lower-both (judge_outcome k) (lowest faults)).1 (judged, (lowest-passed faults).1 (counted, (listed, (room_b, (room_f, tt)))))
 
-    module _ (r : Tabled) (b f : List ℕ) (p : tabled r b f ≡ table_outcome k rates 0 l m) where
+    module _ (r : Result (Unit {0}) Refusal) (b f : List ℕ) (p : tabled r b f ≡ table_outcome k rates 0 l m) where
+      pub table-given : IsOk r
+      table-given = is_ok r (ap (λ (t : outcomes.Tabled). t.answer) p ∙ table-passed)
+
       pub buffers-written : b ≡ written l 0 (map (least_buffer k) rates)
       buffers-written = ap (λ (t : outcomes.Tabled). t.buffers) p ∙ ap (λ j. written_if j l 0 (map (least_buffer k) rates)) table-passed
 
       pub fullnesses-written : f ≡ written m 0 (map (least_fullness k) rates)
       fullnesses-written = ap (λ (t : outcomes.Tabled). t.fullnesses) p ∙ ap (λ j. written_if j m 0 (map (least_fullness k) rates)) table-passed
+
+  pub tables : (r : Result (Unit {0}) Refusal) (b f : List ℕ) → tabled r b f ≡ table_outcome k rates 0 (replicate rows_max 0) (replicate rows_max 0) → Tables k rates r b f
+  tables r b f p =
+      let l : List ℕ = replicate rows_max 0 in
+      let bs : b ≡ written l 0 (map (least_buffer k) rates) = buffers-written l l rows-few rows-few r b f p in
+      let fs : f ≡ written l 0 (map (least_fullness k) rates) = fullnesses-written l l rows-few rows-few r b f p in
+      record {
+        given = table-given l l rows-few rows-few r b f p;
+        buffers_fit = written-fits l b (map (least_buffer k) rates) _ bs (length-map rates (least_buffer k));
+        fullnesses_fit = written-fits l f (map (least_fullness k) rates) _ fs (length-map rates (least_fullness k));
+        text = rw (written-front l b _ _ bs (length-map rates (least_buffer k)), written-front l f _ _ fs (length-map rates (least_fullness k)));
+        fits = least-fits;
+      }
 
 -- the recording at the front of two lists
 abbrev pub front : (sizes ticks : List ℕ) → Head → Recording
@@ -123,14 +153,14 @@ module _ (bytes l m r : List ℕ) (hl : sheet_pictures_max ≤ length l) (hm : s
       go (given tt) e = rw e (rooms-passed (parts e).0)
       go (refused n i) e = rw e
 
-  module _ (o : Opened) (sizes ticks rates : List ℕ) (p : opened o sizes ticks rates ≡ open_outcome bytes l m r) where
+  module _ (o : Result Head Refusal) (sizes ticks rates : List ℕ) (p : opened o sizes ticks rates ≡ open_outcome bytes l m r) where
     answers : {a : Answer sheet.Head} → (opened o sizes ticks rates).answer ≡ a → answer_with (first (open_faults bytes l m r)) (sheet.head_of bytes) ≡ a
     answers e = sym (ap (λ (t : sheet.Opened). t.answer) p) ∙ e
 
-    pub judged-refused : (n i : ℕ) → o ≡ Refused n i → first (sheet_faults bytes) ≡ refused n i
-    judged-refused n i e = sym open-judged ∙ answer-refuses _ (sheet.head_of bytes) n i (answers (ap opened_of e))
+    pub judged-refused : (e : Refusal) → o ≡ Err e → first (sheet_faults bytes) ≡ refused (number_of e) (place_of e)
+    judged-refused e was = sym open-judged ∙ answer-refuses _ (sheet.head_of bytes) _ _ (answers (ap opened_of was))
 
-    module _ (head : Head) (e : o ≡ Sheet head) where
+    module _ (head : Head) (e : o ≡ Ok head) where
       said : (first (open_faults bytes l m r) ≡ passed) × (head_of head ≡ sheet.head_of bytes)
       said = let (ok, same) = answer-passed _ (sheet.head_of bytes) (head_of head) (answers (ap opened_of e)) in (ok, sym same)
 
@@ -176,48 +206,35 @@ module _ (bytes l m r : List ℕ) (hl : sheet_pictures_max ≤ length l) (hm : s
             text = rw (passes, whole, listed);
           }
 
--- printing to a lent list what was put together
-module _ (bytes text whole₀ whole : List ℕ) (o : Output)
-    (said : Put whole₀ 0 (sheet_text bytes) whole o.end × (judgement_of o.judged ≡ first (sheet_faults bytes))) where
-  abbrev end : ℕ
-  end = o.end
+-- lists of zeros have room for every sheet
+abbrev zeros : ℕ → List ℕ
+zeros n = replicate n 0
 
-  abbrev put : Put whole₀ 0 (sheet_text bytes) whole end
-  put = said.0
+enough : (n : ℕ) → n ≤ length (zeros n)
+enough n = le_of_eq (sym (length-replicate {A = ℕ} n 0))
 
-  ends : length (sheet_text bytes) ≡ end
-  ends = omega (arith, put.1)
+module _ (bytes : List ℕ) (o : Result Head Refusal) (sizes ticks rates : List ℕ)
+    (p : opened o sizes ticks rates ≡ open_outcome bytes (zeros sheet_pictures_max) (zeros sheet_pictures_max) (zeros rows_max)) where
+  pub sheet-refused : {A : Type 0} (e : Refusal) → o ≡ Err e → (out : Result A Refusal) → IsErrAnd out (λ y. y ≡ e) → judgement_of out ≡ first (sheet_faults bytes)
+  sheet-refused e was out back =
+      ap judgement_of (stopped out e back)
+      ∙ sym (judged-refused bytes (zeros sheet_pictures_max) (zeros sheet_pictures_max) (zeros rows_max) (enough _) (enough _) (enough _) o sizes ticks rates p e was)
 
-  pub print-fits : (end ≤ length whole) × (end ≡ length (take end whole))
-  print-fits = written-fits whole₀ whole (sheet_text bytes) end put.0 ends
+  pub sheet-opens : (head : Head) → o ≡ Ok head → Opens bytes sizes ticks rates head
+  sheet-opens head was =
+      opens bytes (zeros sheet_pictures_max) (zeros sheet_pictures_max) (zeros rows_max) (enough _) (enough _) (enough _) o sizes ticks rates p head was
 
-  -- the room in the lent list
-  abbrev room : Judgement
-  room = room_check text 0 (length (sheet_text bytes))
+-- printing to a lent list, with room for it, what was put together
+pub print-given : (bytes text whole₀ whole : List ℕ) (o : Output) → Put whole₀ 0 (sheet_text bytes) whole o.end × (judgement_of o.judged ≡ first (sheet_faults bytes))
+    → (r : Result (Unit {0}) Refusal) (x : Unit {0}) → judgement_of r ≡ room_check text 0 o.end → r ≡ Ok x
+    → (text' : List ℕ) → text' ≡ written text 0 (take o.end whole) → printed (Ok o) text' ≡ print_outcome bytes text
+print-given bytes text whole₀ whole o (put, said) r x says was text' w =
+    let ends : length (sheet_text bytes) ≡ o.end = omega (arith, put.1) in
+    let front : take o.end whole ≡ sheet_text bytes = written-front whole₀ whole (sheet_text bytes) o.end put.0 ends in
+    rw (ends, step-passes r x says was, w, front, said)
 
-  pub print-room : room_check text 0 end ≡ room
-  print-room = ap (room_check text 0) (sym ends)
-
-  pub print-refused : {n i : ℕ} → room ≡ refused n i → printed (printed-answer.Refused n i) text ≡ print_outcome bytes text
-  print-refused e = rw e
-
-  module _ (pass : room ≡ passed) where
-    pub print-roomy : 0 + end ≤ length text
-    print-roomy = (room_check-passed text 0 end).0 (print-room ∙ pass)
-
-    pub print-given : {text' : List ℕ} → text' ≡ written text 0 (take end whole) → printed (printed-answer.Text o) text' ≡ print_outcome bytes text
-    print-given w =
-        let front : take end whole ≡ sheet_text bytes = written-front whole₀ whole (sheet_text bytes) end put.0 ends in
-        rw (pass, w, front, ends, said.1)
-
-pub output-printed : (bytes text₀ text : List ℕ) (v : Printed) (o : Output) → printed v text ≡ print_outcome bytes text₀ → v ≡ printed-answer.Text o
+-- what an answer with a text says
+pub output-printed : (bytes text₀ text : List ℕ) (v : Result Output Refusal) (o : Output) → printed v text ≡ print_outcome bytes text₀ → v ≡ Ok o
     → (room_check text₀ 0 (length (sheet_text bytes)) ≡ passed) × (sheet.output_of bytes ≡ output_of o)
 output-printed bytes text₀ text v o p e =
     answer-passed _ (sheet.output_of bytes) (output_of o) (sym (ap (λ (t : sheet.Printed). t.answer) p) ∙ ap printed_of e)
-
-pub text-printed : (bytes text₀ text : List ℕ) (v : Printed) (o : Output) → printed v text ≡ print_outcome bytes text₀ → v ≡ printed-answer.Text o
-    → (o.end ≤ length text) × (o.end ≡ length (take o.end text))
-text-printed bytes text₀ text v o p e =
-    let (ok, same) = output-printed bytes text₀ text v o p e in
-    written-fits text₀ text (sheet_text bytes) o.end (ap (λ (t : sheet.Printed). t.text) p ∙ ap (λ j. written_if j text₀ 0 (sheet_text bytes)) ok)
-    (ap (λ (t : sheet.Output). t.end) same)

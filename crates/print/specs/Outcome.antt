@@ -3,20 +3,18 @@
 --     printed_of   what was printed, or a refusal
 --     printed      the same with the list of bytes afterwards
 -- Assumes nothing.
-use Rattle.std.specs.Prelude.{ℕ, List}
-use Rattle.terms.specs.Answers.{Answer, given, refused}
+use Rattle.std.specs.Prelude.{ℕ, List, Result}
+use Rattle.terms.specs.Answers.{Answer}
 use Rattle.layout.specs.Sheet as sheet
-use Rattle.judgement.specs.Outcome.{judgement_of}
+use Rattle.judgement.specs.Outcome.{answer_by, judgement_of}
+use Rattle.judgement.specs.declared.Refusal.{Refusal}
 use Rattle.print.specs.declared.Output.{Output}
-use Rattle.print.specs.declared.Printed.{Printed}
-use Rattle.print.specs.declared.Printed.TheVariants as printed-answer
 
 abbrev pub output_of : Output → sheet.Output
 output_of o = record { end = o.end; judged = judgement_of o.judged }
 
-abbrev pub printed_of : Printed → Answer sheet.Output
-printed_of (printed-answer.Text o) = given (output_of o)
-printed_of (printed-answer.Refused number place) = refused number place
+abbrev pub printed_of : Result Output Refusal → Answer sheet.Output
+printed_of r = answer_by output_of r
 
-abbrev pub printed : Printed → (text : List ℕ) → sheet.Printed
+abbrev pub printed : Result Output Refusal → (text : List ℕ) → sheet.Printed
 printed r text = record { answer = printed_of r; text = text }

@@ -3,26 +3,23 @@
 --     open-unique
 -- Assumes nothing.
 use Prim.Native.Nat.{ℕ}
-use native.Mathlib.Omega.{arith}
 use mathlib.Core.Path.{◌≡◌, sym, ap, ◌∙◌}
 use mathlib.Core.List.{List}
+use Rattle.std.specs.Prelude.{Result}
 use Rattle.layout.specs.Sheet as sheet
+use Rattle.judgement.specs.declared.Refusal.{Refusal}
+use Rattle.judgement.proofs.Unique.{answer_by-one}
 use Rattle.sheet.specs.Outcome.{head_of, opened_of}
 use Rattle.sheet.specs.Promises.{OpenPromise}
 use Rattle.sheet.specs.declared.Head.{Head}
-use Rattle.sheet.specs.declared.Opened.{Opened}
-use Rattle.sheet.specs.declared.Opened.TheVariants as opened
 
 head_of-one : (v w : Head) → head_of v ≡ head_of w → v ≡ w
 head_of-one v w e = ap (λ (h : sheet.Head). record { pictures = h.pictures; rates = h.rates; ts = h.ts; nu = h.nu }) e
 
-opened_of-one : (v w : Opened) → opened_of v ≡ opened_of w → v ≡ w
-opened_of-one (opened.Sheet h) (opened.Sheet h') e = let same : head_of h ≡ head_of h' = cc in ap opened.Sheet (head_of-one h h' same)
-opened_of-one (opened.Sheet h) (opened.Refused n' i') e = let z : ◌≡◌ {A = ℕ} 0 1 = cc in absurd (omega arith)
-opened_of-one (opened.Refused n i) (opened.Sheet h') e = let z : ◌≡◌ {A = ℕ} 0 1 = cc in absurd (omega arith)
-opened_of-one (opened.Refused n i) (opened.Refused n' i') e = cc
+opened_of-one : (v w : Result Head Refusal) → opened_of v ≡ opened_of w → v ≡ w
+opened_of-one v w e = answer_by-one head_of head_of-one v w e
 
-pub open-unique : (bytes l m n : List ℕ) (v w : Opened) (s t r s' t' r' : List ℕ)
+pub open-unique : (bytes l m n : List ℕ) (v w : Result Head Refusal) (s t r s' t' r' : List ℕ)
     → OpenPromise bytes l m n v s t r → OpenPromise bytes l m n w s' t' r' → (v ≡ w) × (s ≡ s') × (t ≡ t') × (r ≡ r')
 open-unique bytes l m n v w s t r s' t' r' a b =
     let same = a ∙ sym b in (

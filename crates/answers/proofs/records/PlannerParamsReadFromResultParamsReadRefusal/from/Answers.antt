@@ -29,8 +29,8 @@ no-rows : (c : ℕ) (xs : List ℕ) → AllOfLen (λ x. x ≡ 0) xs cpb_cnt_max 
 no-rows c xs zeros =
     same_number_lists xs (rows_of [] 0 c) (zeros.long ∙ sym (list_of-length _ cpb_cnt_max))
     (λ k h.
-        let in-range : k < cpb_cnt_max = omega (arith, zeros.long) in
-        zeros.at k 0 in-range ∙ sym (list_of-at _ cpb_cnt_max 0 in-range ∙ either-way (ltb k 0)))
+    let in-range : k < cpb_cnt_max = omega (arith, zeros.long) in
+    zeros.at k 0 in-range ∙ sym (list_of-at _ cpb_cnt_max 0 in-range ∙ either-way (ltb k 0)))
 
 module _ (p : Params) where
   abbrev Zeros : Type 0
