@@ -1,5 +1,6 @@
-// The planner for C and Rust: each export has the promise of the function of its name in `planner`, which it calls. Serves document 01,
-// "What the planner covers".
+// The planner for C and Rust: each export has the promise of the function of its name in `planner`, which it calls, and is proved from
+// that function's contract alone: an `ensures` there that says less than the promise of which uniqueness and demands speak is refused
+// here. Serves document 01, "What the planner covers".
 
 #![tactic(auto)]
 
