@@ -13,8 +13,6 @@ use Rattle.terms.specs.Answers.{given, first}
 use Rattle.terms.proofs.AnswersLaws.{answer-passed}
 use Rattle.coding.specs.Params.{ParamsRead, ParamsWritten, params_judged, params_bits, write_faults}
 use Rattle.coding.proofs.Undoing.{written-is-read, read-is-written}
-use Rattle.coding.specs.Undoing.{RecordBack}
-use Rattle.judgement.specs.Outcome.{answer_by}
 use Rattle.judgement.specs.declared.Refusal.{Refusal}
 use Rattle.judgement.proofs.Unique.{answer_by-one}
 use Rattle.params.specs.Outcome.{params_of}

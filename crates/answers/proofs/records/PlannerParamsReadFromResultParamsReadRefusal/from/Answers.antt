@@ -2,23 +2,19 @@
 --     no-rows      numbers that are all zero are those of no rows
 --     no-params    a record of zeros is the record of a refusal
 -- Assumes nothing.
-use Prim.Native.Nat.{ℕ, ◌≤◌, ◌<◌}
+use Prim.Native.Nat.{ℕ, ◌<◌}
 use native.Mathlib.Omega.{arith}
-use mathlib.Core.Path.{◌≡◌, refl, sym, ap, ◌∙◌}
+use mathlib.Core.Path.{◌≡◌, refl, sym, ◌∙◌}
 use mathlib.Core.Bool.{Bool, true, false, cond}
 use mathlib.Core.List.{List, []}
 use lib.Dec.{ltb}
-use lib.ListN.{length, get_or}
 use Rattle.std.specs.Array.{AllOfLen}
 use Rattle.std.proofs.lemmas.Grind.{same_number_lists}
 use Rattle.rules.specs.Limits.{cpb_cnt_max}
-use Rattle.terms.specs.Numbers.{list_of}
 use Rattle.terms.proofs.NumbersLaws.{list_of-length, list_of-at}
 use Rattle.coding.specs.Params.{rows_of, zero_params}
-use Rattle.judgement.specs.Outcome.{number_of, place_of}
 use Rattle.params.specs.Outcome.{params_of}
 use Rattle.params.specs.declared.Params.{Params}
-use Rattle.params_read.specs.Outcome.{params_read_of}
 use Rattle.answers.proofs.records.PlannerParamsReadFromResultParamsReadRefusal.from.Goals as goal
 
 either-way : (b : Bool) → cond {A = ℕ} b 0 0 ≡ 0
