@@ -31,12 +31,12 @@ pub fn step(m: Needs, bits: u64, last: u64, first: u64) -> Needs
     ensures { needs_of result ≡ needs_step (needs_of m) bits last first }
 {
     let total = m.total + bits;
-    let level = numbers::less(m.level, last) + bits;
+    let level = m.level.saturating_sub(last) + bits;
     Needs {
         total,
         level,
-        buffer: numbers::larger(m.buffer, level),
-        fullness: numbers::larger(m.fullness, numbers::less(total, first)),
+        buffer: m.buffer.max(level),
+        fullness: m.fullness.max(total.saturating_sub(first)),
     }
 }
 

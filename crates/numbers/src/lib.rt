@@ -1,4 +1,4 @@
-// Small arithmetic that several rooms share. Each function is one definition of terms/specs/Numbers.antt, or one of the language's own.
+// Small arithmetic that several rooms share: each function is one definition of terms/specs/Numbers.antt, by a method of the language.
 
 #![tactic(auto)]
 
@@ -6,32 +6,11 @@ ghost use Rattle.std.specs.Prelude.{◌≡◌, ◌+◌, ◌-◌, ◌≤◌, ◌<
 ghost use Rattle.rules.specs.Width.{Word};
 ghost use Rattle.terms.specs.Numbers.{round_up, outside};
 
-// A byte as a number.
-pub fn wide(b: u8) -> u64
-    ensures { (result ≡ b) × (result < 256) }
-{
-    u64::from(b)
-}
-
 // Whether x lies outside lo to hi.
 pub fn is_outside(lo: u64, hi: u64, x: u64) -> bool
     ensures { result ≡ outside lo hi x }
 {
     !(lo..=hi).contains(&x)
-}
-
-// a - b, or 0 where b is larger.
-pub fn less(a: u64, b: u64) -> u64
-    ensures { result ≡ a - b }
-{
-    a.saturating_sub(b)
-}
-
-// The larger of two numbers.
-pub fn larger(a: u64, b: u64) -> u64
-    ensures { result ≡ max a b }
-{
-    a.max(b)
 }
 
 // x / d, rounded up.

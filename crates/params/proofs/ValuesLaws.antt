@@ -1,33 +1,17 @@
 -- The values of a record, as the loops over its fields meet them. Definitions: coding/specs/Fields.antt, coding/specs/Params.antt, specs/Steps.antt.
---     Walk, walk-judged, walk-next   a loop over the fields of a record whose count is in range
 --     At                             a field of a record and its value, as the code has them
 --     within-fields, within-values   its number is below that of the fields, and of the values
 -- Where each value stands: coding/proofs/BackLaws.antt. Assumes nothing.
-use Prim.Native.Nat.{ℕ, ◌+◌, ◌*◌, ◌≤◌, ◌<◌, zero-le}
+use Prim.Native.Nat.{ℕ, ◌+◌, ◌*◌, ◌<◌}
 use native.Mathlib.Omega.{arith}
 use mathlib.Core.Path.{◌≡◌}
 use lib.ListN.{length, get_or}
-use Rattle.rules.specs.Limits.{cpb_cnt_max}
-use Rattle.terms.specs.Answers.{passed}
 use Rattle.coding.specs.Fields.{cpb_cnt_minus1, fields_of}
-use Rattle.coding.specs.Params.{Params, values_of, params_judged}
-use Rattle.coding.proofs.FieldsLaws.{count-passed}
+use Rattle.coding.specs.Params.{Params, values_of}
 use Rattle.coding.proofs.BackLaws.{values_of-length}
 use Rattle.params.specs.Steps.{field_of}
 use Rattle.params.specs.declared.Field as code
 use Rattle.params.proofs.FieldAtLaws.{fields_of-length}
-
--- a loop over the fields of a record whose count is in range, with f of them passed
-pub record Walk (p : Params) (f : ℕ) : Type 0 where
-  pub some : 1 ≤ p.cpb_cnt
-  pub few : p.cpb_cnt ≤ cpb_cnt_max
-  pub within : f ≤ 3 + 3 * p.cpb_cnt + 4
-
-pub walk-judged : (p : Params) → params_judged p ≡ passed → Walk p 0
-walk-judged p ok = let (some, few, _) = (count-passed p.cpb_cnt _).0 ok in record { some = some; few = few; within = zero-le }
-
-pub walk-next : {p : Params} {f : ℕ} → Walk p f → f < 3 + 3 * p.cpb_cnt + 4 → Walk p (f + 1)
-walk-next w h = record { some = w.some; few = w.few; within = omega arith }
 
 -- field number f of a record and its value, as the code has them
 pub record At (p : Params) (f : ℕ) (field : code.Field) (v : ℕ) : Type 0 where
