@@ -3,7 +3,6 @@
 --     field_bits               the bits of a field
 --     bits_left, bits-none     the bits of the fields that are left: none behind the last
 --     bits-more, length-more   a field's bits stand before those of the fields behind it
---     rows-counted             the rows of a record that passes are in range
 --     Here                     a field of a record and its value, as the code has them
 --     field-ready              in a record that passes it can be written
 -- Assumes nothing.
@@ -15,7 +14,7 @@ use mathlib.Core.Path.{◌≡◌, refl, ap, ◌∙◌}
 use mathlib.Core.List.{List, [], ◌∷◌, ◌++◌}
 use lib.ListN.{length, get_or, drop, length-append, drop_of_length-le}
 use lib.Seq.{drop-cons}
-use Rattle.rules.specs.Limits.{cpb_cnt_max, value_max, length_width}
+use Rattle.rules.specs.Limits.{value_max, length_width}
 use Rattle.terms.specs.Answers.{passed}
 use Rattle.coding.specs.Codes.{code_bits}
 use Rattle.coding.specs.Fields.{Field, cpb_cnt_minus1, fields_of, fields_judged, fields_bits}
@@ -34,9 +33,6 @@ judged-most (a ∷ fs) earlier [] d f h g ok = absurd (not-suc-le-zero g)
 judged-most (a ∷ fs) earlier (v ∷ vs) d zero h g ok = (keeps-parts a earlier v ((judged-cons a fs earlier v vs).0 ok).0).0
 judged-most (a ∷ fs) earlier (v ∷ vs) d (suc f) h g ok =
     judged-most fs (earlier ++ (v ∷ [])) vs d f (le_of_suc-le-suc h) (le_of_suc-le-suc g) ((judged-cons a fs earlier v vs).0 ok).1
-
-pub rows-counted : (p : Params) → params_judged p ≡ passed → (1 ≤ p.cpb_cnt) × (p.cpb_cnt ≤ cpb_cnt_max)
-rows-counted p ok = let (some, few, _) = (count-passed p.cpb_cnt _).0 ok in (some, few)
 
 -- the bits of field number f
 abbrev pub field_bits : Params → (f : ℕ) → List ℕ

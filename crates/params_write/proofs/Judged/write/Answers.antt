@@ -1,4 +1,4 @@
--- `params_write::write_fields` meets its contract. The loop's invariant: the fields that are left, written at `p` into the bytes as they are, end where
+-- `params_write::Judged::write` meets its contract. The loop's invariant: the fields that are left, written at `p` into the bytes as they are, end where
 -- the whole record does and give the bytes that it gives. Assumes nothing.
 use Prim.Native.Nat.{ℕ, ◌+◌, ◌*◌, ◌^◌, ◌≤◌, ◌<◌}
 use native.Mathlib.Omega.{arith}
@@ -11,8 +11,8 @@ use Rattle.coding.proofs.PutBitsLaws.{put_bits-append}
 use Rattle.params.specs.Steps.{code_of}
 use Rattle.params.specs.declared.Field as code
 use Rattle.params_write.proofs.WriteLaws.{Here, bits_left, bits-none, bits-more, length-more}
-use Rattle.params_write.proofs.write_fields.Invariants.{Written}
-use Rattle.params_write.proofs.write_fields.Goals as goal
+use Rattle.params_write.proofs.Judged.write.Invariants.{Written}
+use Rattle.params_write.proofs.Judged.write.Goals as goal
 
 module _ (p : Params) (bytes₀ : List ℕ) (start : ℕ) (bytes : List ℕ) (q f : ℕ) (h : Written p bytes₀ start bytes q f) where
   module _ (inside : f < 3 + 3 * p.cpb_cnt + 4) (field : code.Field) (v : ℕ) (here : Here p f field v) where
@@ -40,12 +40,12 @@ module _ (p : Params) (bytes₀ : List ℕ) (start : ℕ) (bytes : List ℕ) (q 
 pub loop-f-init : goal.loop-f-init
 loop-f-init c = record { end = refl; is = refl }
 
-pub write_field-p-requires-clause-room : goal.write_field-p-requires-clause-room
-write_field-p-requires-clause-room c =
-    room _ _ _ _ _ _ c.loop-f.invariant (omega arith) _ _ c.field_and_value-v.ensures.is c.requires.room c.loop-f.auto.bytes
+pub write-p-requires : goal.write-p-requires
+write-p-requires c =
+    room _ _ _ _ _ _ c.loop-f.invariant (omega arith) _ _ c.field.ensures c.requires c.loop-f.auto.bytes
 
 pub loop-f-preserved : goal.loop-f-preserved
-loop-f-preserved c = next _ _ _ _ _ _ c.loop-f.invariant (omega arith) _ _ c.field_and_value-v.ensures.is _ _ c.write_field-p.ensures
+loop-f-preserved c = next _ _ _ _ _ _ c.loop-f.invariant (omega arith) _ _ c.field.ensures _ _ c.write-p.ensures
 
 pub returns : goal.returns
 returns c = done _ _ _ _ _ _ c.loop-f.invariant (omega arith)

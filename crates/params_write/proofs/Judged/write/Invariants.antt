@@ -1,4 +1,4 @@
--- `params_write::write_fields` meets its contract. The loop's invariant: the fields that are left, written at `p` into the bytes as they are, end where
+-- `params_write::Judged::write` meets its contract. The loop's invariant: the fields that are left, written at `p` into the bytes as they are, end where
 -- the whole record does and give the bytes that it gives. Assumes nothing.
 use Prim.Native.Nat.{ℕ, ◌+◌}
 use mathlib.Core.Path.{◌≡◌}
@@ -8,7 +8,7 @@ use Rattle.coding.specs.Codes.{put_bits}
 use Rattle.coding.specs.Params.{Params, params_bits}
 use Rattle.params.specs.Outcome.{params_of}
 use Rattle.params_write.proofs.WriteLaws.{bits_left}
-use Rattle.params_write.proofs.write_fields.Given as goal
+use Rattle.params_write.proofs.Judged.write.Given as goal
 
 -- the first f fields are written, up to position q
 pub record Written (p : Params) (bytes₀ : List ℕ) (start : ℕ) (bytes : List ℕ) (q f : ℕ) : Type 0 where
@@ -16,4 +16,4 @@ pub record Written (p : Params) (bytes₀ : List ℕ) (start : ℕ) (bytes : Lis
   pub is : put_bits bytes q (bits_left p f) ≡ put_bits bytes₀ start (params_bits p)
 
 abbrev pub invariant-loop-f : goal.invariant-loop-f
-invariant-loop-f l = Written (params_of l.params) l.initial.bytes l.start l.bytes l.p l.f
+invariant-loop-f l = Written (params_of l.self.params) l.initial.bytes l.start l.bytes l.p l.f

@@ -1,4 +1,4 @@
--- `params_write::params_length` meets its contract: the bits of the fields, each at most 63, are those of the record.
+-- `params_write::Judged::length` meets its contract: the bits of the fields, each at most 63, are those of the record.
 -- Assumes nothing.
 use Prim.Native.Nat.{ℕ, zero, suc, ◌+◌, ◌*◌, ◌^◌, ◌<◌}
 use native.Mathlib.Numerals.{add-one}
@@ -16,7 +16,7 @@ use Rattle.std.proofs.lemmas.List.FromFn.{length-range_with_len, sum_by-map-rang
 use Rattle.coding.specs.Params.{Params, params_bits}
 use Rattle.params.specs.Outcome.{params_of}
 use Rattle.params_write.proofs.WriteLaws.{field_bits, bits_left, bits-none, length-more}
-use Rattle.params_write.proofs.params_length.Goals as goal
+use Rattle.params_write.proofs.Judged.length.Goals as goal
 
 -- what is left falls by each part
 sum-left : (part left : ℕ → ℕ) (n : ℕ) → ((f : ℕ) → f < n → left f ≡ part f + left (f + 1)) → sum (map part (range_with_len 0 n)) + left n ≡ left 0
@@ -42,7 +42,7 @@ sum-requires-clause-fits c =
 
 pub returns : goal.returns
 returns c =
-    let p = params_of c.args.params in
+    let p = params_of c.args.self.params in
     let all = 3 + 3 * p.cpb_cnt + 4 in
     sum_from_yields_List c.map.result c.sum.result c.sum.ensures.ran
     (YieldsList-from_map _ (λ f. length (field_bits p f)) (YieldsList-from_range 0 c.field_count.result all c.map.ensures.source (search rules)) c.map.ensures.closure (λ x r q k. search (rules, tests)))
