@@ -24,9 +24,9 @@ pub struct Output {
     pub judged: Judgement,
 }
 
-// Puts the table of a recording and rates that were judged at the front of a list with room for every text.
-fn put_least(recording: Recording, rates: &[u64], text: &mut [u8]) -> usize
-    requires { (judge_outcome (recording_of recording) ≡ passed) × (rate_count_check rates.now ≡ passed) × (rate_list_check rates.now ≡ passed) × (text_max ≤ length text.old) }
+// Puts the table of a recording and rates that were judged at the front of an array with room for every text.
+fn put_least(recording: Recording, rates: &[u64], text: &mut [u8; TEXT_MAX]) -> usize
+    requires { (judge_outcome (recording_of recording) ≡ passed) × (rate_count_check rates.now ≡ passed) × (rate_list_check rates.now ≡ passed) }
     ensures { Put text.old 0 (least_text (recording_of recording.entry) rates.now) text.new result }
 {
     let m = rates.len();
@@ -37,9 +37,8 @@ fn put_least(recording: Recording, rates: &[u64], text: &mut [u8]) -> usize
     text::put_table(rates, &buffers[..m], &fullnesses[..m], text)
 }
 
-// Puts the table of a sheet that opens at the front of a list with room for every text.
-fn put_table(bytes: &[u8], text: &mut [u8]) -> Result<usize, Refusal>
-    requires { text_max ≤ length text.old }
+// Puts the table of a sheet that opens at the front of an array with room for every text.
+fn put_table(bytes: &[u8], text: &mut [u8; TEXT_MAX]) -> Result<usize, Refusal>
     ensures judges { judgement_of result ≡ first (sheet_faults bytes.now) }
     ensures puts { IfOk result (λ end. Put text.old 0 (sheet_text bytes.now) text.new end) }
     ensures keeps { OnErr result (text.new ≡ text.old) }
@@ -60,9 +59,8 @@ fn put_table(bytes: &[u8], text: &mut [u8]) -> Result<usize, Refusal>
     Ok(put_least(recording, &rates[..m], text))
 }
 
-// Puts what a sheet prints, its table or its refusal line, at the front of a list with room for every text.
-fn put_sheet(bytes: &[u8], text: &mut [u8]) -> Output
-    requires { text_max ≤ length text.old }
+// Puts what a sheet prints, its table or its refusal line, at the front of an array with room for every text.
+fn put_sheet(bytes: &[u8], text: &mut [u8; TEXT_MAX]) -> Output
     ensures { Put text.old 0 (sheet_text bytes.now) text.new result.end × (judgement_of result.judged ≡ first (sheet_faults bytes.now)) }
 {
     match put_table(bytes, text) {

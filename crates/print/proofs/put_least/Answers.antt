@@ -14,4 +14,4 @@ unwrap-requires c = (tables (recording_of c.args.recording) c.args.rates.now c.r
 pub put_table-requires : goal.put_table-requires
 put_table-requires c =
     let t = tables (recording_of c.args.recording) c.args.rates.now c.requires.0 c.requires.1 c.requires.2 _ _ _ c.table.ensures in
-    (omega (arith, ap length t.text, t.fits, c.requires.3), le_of_eq t.buffers_fit.1, le_of_eq t.fullnesses_fit.1)
+    (omega (arith, ap length t.text, t.fits), le_of_eq t.buffers_fit.1, le_of_eq t.fullnesses_fit.1)

@@ -10,4 +10,4 @@ pub put_refusal-requires : goal.put_refusal-requires
 put_refusal-requires c =
     let n : Word c.number.result = search rules in
     let i : Word c.place.result = search rules in
-    omega (arith, refusal_line-fits _ _ n i, c.requires)
+    omega (arith, refusal_line-fits _ _ n i)

@@ -30,7 +30,7 @@ slice_bounds-put_least-end c = (sheet-opens c.args.bytes.now _ _ _ _ c.open_shee
 pub put_least-requires : goal.put_least-requires
 put_least-requires c =
     let judged = (sheet-opens c.args.bytes.now _ _ _ _ c.open_sheet.ensures _ c.in_ok-head.was).judged in
-    (judged.0, judged.1, judged.2, c.requires)
+    (judged.0, judged.1, judged.2)
 
 pub returns-clause-judges : goal.returns-clause-judges
 returns-clause-judges c = sym (sheet-opens c.args.bytes.now _ _ _ _ c.open_sheet.ensures _ c.in_ok-head.was).passes
