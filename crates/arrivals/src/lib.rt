@@ -2,8 +2,7 @@
 
 #![tactic(auto)]
 
-ghost use Rattle.std.specs.Prelude.{◌≡◌, ◌+◌, ◌-◌, ◌≤◌, max, set};
-ghost use Rattle.rules.specs.Limits.{rate_max, bucket_max};
+ghost use Rattle.std.specs.Prelude.{◌≡◌, ◌+◌, ◌-◌, max, set};
 ghost use Rattle.rules.specs.Width.{Word};
 ghost use Rattle.terms.specs.Numbers.{filled};
 ghost use Rattle.model.specs.Recording.{pictures};
@@ -11,8 +10,8 @@ ghost use Rattle.model.specs.Arrival.{arrival_start, arrival_end, then, verdict_
 ghost use Rattle.recording.specs.Given.{recording_of, bucket_of};
 ghost use Rattle.arrivals.specs.Seen.{seen_of};
 
-use recording::judged::Judged;
-use recording::{Bucket, Recording};
+use recording::Recording;
+use recording::judged::{Judged, JudgedBucket};
 
 // When a picture arrives, in units of 1/(R x TS) second, and by how many units its end is after its removal.
 #[derive(Clone, Copy)]
@@ -64,11 +63,15 @@ fn store(list: &mut [u64], i: usize, x: u64)
 
 // The first late picture of a bucket, if any, recording and bucket having been judged. Starts and ends are stored in the first entries
 // of two lists, as far as these reach.
-pub fn run(judged: Judged, bucket: Bucket, starts: &mut [u64], ends: &mut [u64]) -> Option<Late>
-    requires { (bucket.rate ≤ rate_max) × (bucket.buffer ≤ bucket_max) × (bucket.fullness ≤ bucket.buffer) }
-    ensures verdict { seen_of result ≡ verdict_of (recording_of judged.entry.recording) (bucket_of bucket) }
-    ensures starts_filled { starts.new ≡ filled starts.old (arrival_start (recording_of judged.entry.recording) (bucket_of bucket)) (pictures (recording_of judged.entry.recording)) }
-    ensures ends_filled { ends.new ≡ filled ends.old (arrival_end (recording_of judged.entry.recording) (bucket_of bucket)) (pictures (recording_of judged.entry.recording)) }
+pub fn run(
+    judged: Judged,
+    judged_bucket: JudgedBucket,
+    starts: &mut [u64],
+    ends: &mut [u64],
+) -> Option<Late>
+    ensures verdict { seen_of result ≡ verdict_of (recording_of judged.entry.recording) (bucket_of judged_bucket.bucket) }
+    ensures starts_filled { starts.new ≡ filled starts.old (arrival_start (recording_of judged.entry.recording) (bucket_of judged_bucket.bucket)) (pictures (recording_of judged.entry.recording)) }
+    ensures ends_filled { ends.new ≡ filled ends.old (arrival_end (recording_of judged.entry.recording) (bucket_of judged_bucket.bucket)) (pictures (recording_of judged.entry.recording)) }
 {
     let Recording {
         sizes,
@@ -76,6 +79,7 @@ pub fn run(judged: Judged, bucket: Bucket, starts: &mut [u64], ends: &mut [u64])
         ts,
         nu,
     } = judged.recording;
+    let bucket = judged_bucket.bucket;
     let lead = ts * bucket.fullness;
     let hold = ts * bucket.buffer;
     let fall = bucket.rate * nu;

@@ -25,7 +25,7 @@ refusals =
     ∷ Rate
     ∷ Bucket
     ∷ (λ i. Room)
-    ∷ Short
+    ∷ (λ i. Short)
     ∷ Field
     ∷ Constant
     ∷ (λ i. Sheet)
@@ -45,7 +45,7 @@ refusal-back (Tick i) = refl
 refusal-back (Rate i) = refl
 refusal-back (Bucket i) = refl
 refusal-back Room = refl
-refusal-back (Short i) = refl
+refusal-back Short = refl
 refusal-back (Field i) = refl
 refusal-back (Constant i) = refl
 refusal-back Sheet = refl

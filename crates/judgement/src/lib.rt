@@ -1,5 +1,4 @@
-// What judging answers: nothing, or a refusal, and how several judgements are taken together: the faults of an operation are a list in its
-// definition and one expression in its code. Serves document 01, "When the planner says no".
+// What judging answers: nothing, or a refusal, and how two judgements are taken together. Serves document 01, "When the planner says no".
 
 #![tactic(auto)]
 
@@ -23,7 +22,7 @@ pub enum Refusal {
     Rate(usize),
     Bucket(usize),
     Room,
-    Short(usize),
+    Short,
     Field(usize),
     Constant(usize),
     Sheet,
@@ -47,7 +46,7 @@ impl Refusal {
             Refusal::Rate(_) => RATE,
             Refusal::Bucket(_) => BUCKET,
             Refusal::Room => ROOM,
-            Refusal::Short(_) => SHORT,
+            Refusal::Short => SHORT,
             Refusal::Field(_) => FIELD,
             Refusal::Constant(_) => CONSTANT,
             Refusal::Sheet => SHEET,
@@ -64,7 +63,6 @@ impl Refusal {
             | Refusal::Tick(place)
             | Refusal::Rate(place)
             | Refusal::Bucket(place)
-            | Refusal::Short(place)
             | Refusal::Field(place)
             | Refusal::Constant(place) => place,
             _ => 0,

@@ -7,14 +7,14 @@ ghost use Rattle.std.specs.Prelude.{◌≡◌, ◌-◌, ◌≤◌, ◌||◌, leb
 ghost use Rattle.rules.specs.Limits.{span_max, rate_max, bucket_max};
 ghost use Rattle.rules.specs.Refusals as refusal;
 ghost use Rattle.terms.specs.Answers.{lowest, first_fault};
-ghost use Rattle.model.specs.Faults.{RatesWithin, bad_clock, bad_size, bad_tick, bad_rate, bad_rate_at, bad_bucket, rate_check, rate_list_check, rates_faults, seconds_faults};
+ghost use Rattle.model.specs.Faults.{RatesWithin, bad_clock, bad_size, bad_tick, bad_rate, bad_bucket, rate_check, rate_list_check, rates_faults, seconds_faults};
 ghost use Rattle.model.specs.Outcomes.{judge_outcome};
 ghost use Rattle.judgement.specs.Outcome.{judgement_of};
 ghost use Rattle.recording.specs.Given.{recording_of, bucket_of};
 ghost use Rattle.judging.specs.Promises.{JudgePromise};
 
 use judgement::{Judgement, Refusal, refuse_if};
-use recording::judged::Judged;
+use recording::judged::{Judged, JudgedBucket};
 use recording::{Bucket, Recording};
 use rules::{BUCKET_MAX, NU_MAX, PICTURES_MAX, RATE_MAX, ROWS_MAX, SIZE_MAX, SPAN_MAX, TS_MAX};
 
@@ -139,4 +139,13 @@ pub fn judge_bucket(bucket: Bucket) -> Judgement
         is_bad_bucket(bucket.buffer, bucket.fullness),
         Refusal::Bucket(0),
     )
+}
+
+// The bucket, judged at its rate: refusals 6 and 7.
+pub fn judged_bucket(bucket: Bucket) -> Result<JudgedBucket, Refusal>
+    ensures judges { judgement_of result ≡ lowest (seconds_faults (bucket_of bucket)) }
+    ensures same { IfOk result (λ judged. judged.bucket ≡ bucket) }
+{
+    judge_bucket(bucket)?;
+    Ok(JudgedBucket { bucket })
 }

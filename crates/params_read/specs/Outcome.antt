@@ -22,7 +22,7 @@ fault_of (Short first) = fields.short first
 fault_of (Broken first row) = fields.at_fault first (stand_of row)
 
 abbrev pub refusal_of : FieldFault → Refusal
-refusal_of (Short first) = refusals.Short 0
+refusal_of (Short first) = refusals.Short
 refusal_of (Broken first row) = refusals.Field (fields.place_of (stand_of row))
 
 abbrev pub fields_read_of : Result ℕ FieldFault → (values : List ℕ) → fields.FieldsRead

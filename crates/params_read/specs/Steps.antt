@@ -1,4 +1,4 @@
--- Reading one field, in the terms of coding/specs/Fields.antt.
+-- Reading one field.
 --     after_code    what follows a field's code: the value is judged
 --     field_step    reading one field
 -- Assumes nothing.

@@ -40,7 +40,7 @@ impl From<FieldFault> for Refusal {
 
     fn from(fault: FieldFault) -> Refusal {
         match fault {
-            FieldFault::Short(_) => Refusal::Short(0),
+            FieldFault::Short(_) => Refusal::Short,
             FieldFault::Broken(_, row) => Refusal::Field(row.unwrap_or(0)),
         }
     }

@@ -2,8 +2,7 @@
 
 #![tactic(auto)]
 
-ghost use Rattle.std.specs.Prelude.{◌≡◌, ◌≤◌, IfOk};
-ghost use Rattle.rules.specs.Limits.{rate_max, bucket_max};
+ghost use Rattle.std.specs.Prelude.{◌≡◌, IfOk};
 ghost use Rattle.terms.specs.Answers.{lowest};
 ghost use Rattle.model.specs.Faults.{verdict_faults};
 ghost use Rattle.judgement.specs.Outcome.{judgement_of};
@@ -14,11 +13,11 @@ ghost use Rattle.schedule.specs.Promises.{VerdictPromise, SchedulePromise};
 
 use arrivals::Late;
 use judgement::Refusal;
-use recording::judged::Judged;
+use recording::judged::{Judged, JudgedBucket};
 use recording::{Bucket, Recording};
 
 // The recording holds; or the first late picture and its units.
-// Kept, in place of an Option: `Holds` is document 01's own word.
+// Kept, in place of an Option: the demands (Exactly, LateOrNone) say Holds and Late.
 #[derive(Clone, Copy, Debug, PartialEq, Eq)]
 pub enum Verdict {
     Holds,
@@ -37,23 +36,24 @@ impl From<Option<Late>> for Verdict {
 }
 
 // The recording, judged with its clock, a rate and a bucket: refusals 1 to 7.
-fn judged<'a>(recording: Recording<'a>, bucket: Bucket) -> Result<Judged<'a>, Refusal>
+fn judge<'a>(
+    recording: Recording<'a>,
+    bucket: Bucket,
+) -> Result<(Judged<'a>, JudgedBucket), Refusal>
     ensures judges { judgement_of result ≡ lowest (verdict_faults (recording_of recording.entry) (bucket_of bucket)) }
-    ensures same { IfOk result (λ judged. recording_of judged.recording ≡ recording_of recording.entry) }
-    ensures fits { IfOk result (λ _. (bucket.rate ≤ rate_max) × (bucket.buffer ≤ bucket_max) × (bucket.fullness ≤ bucket.buffer)) }
+    ensures same { IfOk result (λ judged. (recording_of judged.0.recording ≡ recording_of recording.entry) × (judged.1.bucket ≡ bucket)) }
 {
-    let judged = judging::judged(recording)?;
-    judging::judge_bucket(bucket)?;
-    Ok(judged)
+    Ok((judging::judged(recording)?, judging::judged_bucket(bucket)?))
 }
 
 // The verdict of R, B and F: refusals 1 to 7.
 pub fn bucket_verdict(recording: Recording, bucket: Bucket) -> Result<Verdict, Refusal>
     ensures { VerdictPromise (recording_of recording.entry) (bucket_of bucket) result }
 {
-    let judged = judged(recording, bucket)?;
+    let (judged, judged_bucket) = judge(recording, bucket)?;
     // Nobody asked for the schedule, so it is stored nowhere.
-    Ok(Verdict::from(arrivals::run(judged, bucket, &mut [], &mut [])))
+    let late = arrivals::run(judged, judged_bucket, &mut [], &mut []);
+    Ok(Verdict::from(late))
 }
 
 // Writes the schedule to two lent lists from entry `at` on, late or not, and answers the verdict: refusals 1 to 8.
@@ -66,8 +66,8 @@ pub fn schedule(
 ) -> Result<Verdict, Refusal>
     ensures { SchedulePromise (recording_of recording.entry) (bucket_of bucket) at starts.old ends.old result starts.new ends.new }
 {
-    let judged = judged(recording, bucket)?;
+    let (judged, judged_bucket) = judge(recording, bucket)?;
     judgement::judge_rooms(starts.len(), ends.len(), at, recording.sizes.len())?;
-    let seen = arrivals::run(judged, bucket, &mut starts[at..], &mut ends[at..]);
-    Ok(Verdict::from(seen))
+    let late = arrivals::run(judged, judged_bucket, &mut starts[at..], &mut ends[at..]);
+    Ok(Verdict::from(late))
 }

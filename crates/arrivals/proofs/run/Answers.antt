@@ -7,7 +7,7 @@ use Rattle.arrivals.proofs.run.Goals as goal
 
 pub loop-i-init : goal.loop-i-init
 loop-i-init c = (
-  begun _ _ c.args.judged.within c.requires,
+  begun _ _ c.args.judged.within c.args.judged_bucket.within,
   filled-none _ _,
   filled-none _ _,
 )

@@ -9,7 +9,7 @@ use Rattle.arrivals.proofs.run.Given as goal
 abbrev pub invariant-loop-i : goal.invariant-loop-i
 invariant-loop-i l =
     let k = recording_of l.fn.judged.recording in
-    let u = bucket_of l.fn.bucket in
+    let u = bucket_of l.fn.judged_bucket.bucket in
     Running k u l.free l.seen l.i
     × Filled (arrival_start k u) l.initial.starts l.starts l.i
     × Filled (arrival_end k u) l.initial.ends l.ends l.i

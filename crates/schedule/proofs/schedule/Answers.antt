@@ -11,22 +11,23 @@ pub returns-in_err-judged : goal.returns-in_err-judged
 returns-in_err-judged c =
     let k : Recording = recording_of c.args.recording in
     let left = c.from_residual.ensures.1 in
-    schedule-refused k (bucket_of c.args.bucket) c.args.at _ _ _ _ left (stop _ _ _ _ c.judged.ensures.judges c.in_err-judged.was left)
+    schedule-refused k (bucket_of c.args.bucket) c.args.at _ _ _ _ left (stop _ _ _ _ c.judge.ensures.judges c.in_err-judged.was left)
 
 pub returns-in_err-judge_rooms : goal.returns-in_err-judge_rooms
 returns-in_err-judge_rooms c =
     let k : Recording = recording_of c.args.recording in
     let left = c.from_residual-in_err-judge_rooms.ensures.1 in
     schedule-refused k (bucket_of c.args.bucket) c.args.at _ _ _ _ left
-    (stop _ _ _ _ c.judge_rooms.ensures.judges c.in_err-judge_rooms.was left ∙ sym (pass _ _ _ c.judged.ensures.judges c.in_ok-judged.was))
+    (stop _ _ _ _ c.judge_rooms.ensures.judges c.in_err-judge_rooms.was left ∙ sym (pass _ _ _ c.judge.ensures.judges c.in_ok-judged.was))
 
 pub returns : goal.returns
 returns c =
     let k : Recording = recording_of c.args.recording in
     let room = passes _ _ c.judge_rooms.ensures.judges c.in_ok-judge_rooms.was in
-    let judged = passes _ _ c.judged.ensures.judges c.in_ok-judged.was in
-    let e = c.run-seen.ensures in
-    schedule-given k (bucket_of c.args.bucket) c.args.at c.args.starts.now c.args.ends.now room _ judged c.in_ok-judged.ensures.same
+    let judged = passes _ _ c.judge.ensures.judges c.in_ok-judged.was in
+    let (same, bucket-is) = c.in_ok-judged.ensures.same in
+    let e = rw bucket-is at c.run-late.ensures in
+    schedule-given k (bucket_of c.args.bucket) c.args.at c.args.starts.now c.args.ends.now room _ judged same
     (c.from.ensures ∙ e.verdict)
     e.starts_filled
     e.ends_filled
