@@ -1,5 +1,6 @@
 // Least figures, tables and lookups, as C and Rust see them. Serves document 01, "How bits arrive and leave", "Least
 // figures", and "Looking up a rate in a table".
+// Kept: a kind with figures beside it, and a struct for each answer, as the C interface has them.
 ghost use Rattle.std.specs.Prelude.{◌≡◌};
 ghost use Rattle.judgement.specs.Outcome.{answer_by};
 ghost use Rattle.recording.specs.Given.{bucket_of};
@@ -20,7 +21,7 @@ pub struct PlannerBucket {
     pub fullness: u64,
 }
 
-// The struct does not say the bucket's rate.
+// A bucket as a struct, which does not say its rate.
 impl From<Result<Bucket, Refusal>> for PlannerBucket {
     ghost from_gives = { λ found answer. answer ≡ bucket_answer (answer_by bucket_of found) };
 

@@ -1,4 +1,5 @@
 // Judgements and verdicts, as C and Rust see them. Serves document 01, "How bits arrive and leave".
+// Kept: a kind with figures beside it, and a struct for each answer, as the C interface has them.
 ghost use Rattle.std.specs.Prelude.{◌≡◌};
 ghost use Rattle.judgement.specs.Outcome.{judgement_of};
 ghost use Rattle.schedule.specs.Outcome.{answer_of};
@@ -28,6 +29,7 @@ pub struct PlannerVerdict {
     pub units: u64,
 }
 
+// A judgement as a struct.
 impl From<Judgement> for PlannerJudgement {
     ghost from_gives = { λ judged answer. answer ≡ judgement_answer (judgement_of judged) };
 
@@ -46,6 +48,7 @@ impl From<Judgement> for PlannerJudgement {
     }
 }
 
+// A verdict as a struct.
 impl From<Result<Verdict, Refusal>> for PlannerVerdict {
     ghost from_gives = { λ verdict answer. answer ≡ verdict_answer (answer_of verdict) };
 

@@ -1,4 +1,5 @@
 // Parameter records, as C and Rust see them. Serves document 01, "HRD parameter bits".
+// Kept: a kind with figures beside it, and a struct for each answer, as the C interface has them.
 ghost use Rattle.std.specs.Prelude.{◌≡◌};
 ghost use Rattle.judgement.specs.Outcome.{answer_by};
 ghost use Rattle.params_read.specs.Outcome.{params_read_of};
@@ -53,6 +54,7 @@ pub struct PlannerRow {
     pub size: u64,
 }
 
+// What reading a record gave as a struct.
 impl From<Result<ParamsRead, Refusal>> for PlannerParamsRead {
     ghost from_gives = { λ found answer. read_answer answer (params_read_of found) };
 
@@ -75,6 +77,7 @@ impl From<Result<ParamsRead, Refusal>> for PlannerParamsRead {
     }
 }
 
+// The next bit position as a struct.
 impl From<Result<u64, Refusal>> for PlannerPosition {
     ghost from_gives = { λ next answer. answer ≡ position_answer (answer_by (λ p. p) next) };
 
@@ -95,6 +98,7 @@ impl From<Result<u64, Refusal>> for PlannerPosition {
     }
 }
 
+// How many bits a record takes as a struct.
 impl From<Result<u64, Refusal>> for PlannerLength {
     ghost from_gives = { λ length answer. answer ≡ length_answer (answer_by (λ n. n) length) };
 
@@ -115,6 +119,7 @@ impl From<Result<u64, Refusal>> for PlannerLength {
     }
 }
 
+// Rate and size of a row as a struct.
 impl From<Result<Row, Refusal>> for PlannerRow {
     ghost from_gives = { λ row answer. answer ≡ row_answer (params_row_of row) };
 

@@ -1,4 +1,5 @@
 // Seconds and panel readings, as C and Rust see them. Serves document 01, "Looking up a rate in a table".
+// Kept: a kind with figures beside it, and a struct for each answer, as the C interface has them.
 ghost use Rattle.std.specs.Prelude.{◌≡◌};
 ghost use Rattle.panel.specs.Outcome.{timed_of, reading_of};
 ghost use Rattle.answers.specs.Seconds.{seconds_answer, reading_answer};
@@ -29,6 +30,7 @@ pub struct PlannerPanelReading {
     pub limit: f64,
 }
 
+// The seconds of a bucket as a struct.
 impl From<Result<Seconds, Refusal>> for PlannerSeconds {
     ghost from_gives = { λ timed answer. answer ≡ seconds_answer (timed_of timed) };
 
@@ -50,6 +52,7 @@ impl From<Result<Seconds, Refusal>> for PlannerSeconds {
     }
 }
 
+// A panel reading as a struct.
 impl From<Result<Reading, Refusal>> for PlannerPanelReading {
     ghost from_gives = { λ reading answer. answer ≡ reading_answer (reading_of reading) };
 

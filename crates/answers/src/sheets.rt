@@ -1,4 +1,5 @@
 // Sheets and their text, as C and Rust see them. Serves document 01, "The sheet and the printed table".
+// Kept: a kind with figures beside it, and a struct for each answer, as the C interface has them.
 ghost use Rattle.std.specs.Prelude.{◌≡◌};
 ghost use Rattle.sheet.specs.Outcome.{opened_of};
 ghost use Rattle.print.specs.Outcome.{printed_of};
@@ -35,6 +36,7 @@ pub struct PlannerText {
     pub sheet_place: u64,
 }
 
+// What an opened sheet says as a struct.
 impl From<Result<Head, Refusal>> for PlannerSheet {
     ghost from_gives = { λ opened answer. answer ≡ sheet_answer (opened_of opened) };
 
@@ -58,6 +60,7 @@ impl From<Result<Head, Refusal>> for PlannerSheet {
     }
 }
 
+// What was printed as a struct.
 impl From<Result<Output, Refusal>> for PlannerText {
     ghost from_gives = { λ printed answer. answer ≡ text_answer (printed_of printed) };
 

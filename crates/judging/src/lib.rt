@@ -40,6 +40,8 @@ pub fn is_bad_bucket(buffer: u64, fullness: u64) -> bool
 }
 
 // Judges the sizes, each by itself: refusal 4.
+// Kept beside judge_ticks and judge_rate_list, a loop each: one function over a closure would have to name the definition that the closure
+// computes, and say what it may be asked.
 fn judge_sizes(sizes: &[u64]) -> Judgement
     ensures { judgement_of result ≡ first_fault refusal.size (bad_size sizes.now) (length sizes.now) }
 {

@@ -99,7 +99,7 @@ fn judge_span(table: Table) -> Judgement
     )
 }
 
-// Judges the buffers and fullnesses of as many rows as both lists have: refusal 7.
+// Judges the buffers and fullnesses of as many rows as both lists have: refusal 7. Kept, a loop of its own, as judging's are.
 fn judge_rows(buffers: &[u64], fullnesses: &[u64]) -> Judgement
     requires { length fullnesses.now ≡ length buffers.now }
     ensures { judgement_of result ≡ first_fault refusal.bucket (bad_row buffers.now fullnesses.now) (length buffers.now) }

@@ -19,6 +19,7 @@ use rules::{CPB_CNT_MAX, LENGTH_WIDTH, SCALE_WIDTH, VALUE_MAX};
 pub const VALUES_MAX: usize = 3 + 3 * CPB_CNT_MAX + 4;
 
 // A parameter record: its count of rows and that many rows, by the standard's names. cbr_flag is 0 or 1.
+// Kept: arrays with their count beside them, as the C interface has them.
 #[repr(C)]
 #[derive(Clone, Copy, Debug, Default, PartialEq, Eq)]
 pub struct Params {

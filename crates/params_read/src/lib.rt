@@ -35,6 +35,7 @@ enum FieldFault {
     Broken(u64, Option<usize>),
 }
 
+// A fault as a refusal: 9, or 10 at its row.
 impl From<FieldFault> for Refusal {
     ghost from_gives = { λ fault r. r ≡ refusal_of fault };
 
@@ -124,6 +125,7 @@ pub fn read_params(bytes: &[u8], start: u64) -> Result<ParamsRead, Refusal>
     ensures { ReadPromise bytes.now start result }
 {
     let count = read_field(bytes, start, params::field_at(1, 0), 0)?;
+    // Kept: an array with room for every record, as there is no heap.
     let mut values = [0u64; VALUES_MAX];
     values[0] = count.value;
     let n = count.value as usize + 1;

@@ -10,7 +10,7 @@ const STDIN: i32 = 0;
 const STDOUT: i32 = 1;
 
 fn main() {
-    // One byte more than the largest sheet is enough to refuse any longer input, an endless one too.
+    // One byte more than the largest sheet is enough to refuse any longer input, an endless one too. Kept: arrays, as there is no heap.
     let mut bytes = [0u8; SHEET_BYTES_MAX + 1];
     let n = io::read_full(STDIN, &mut bytes);
     let mut text = [0u8; TEXT_MAX];

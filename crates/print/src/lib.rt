@@ -79,6 +79,7 @@ fn put_sheet(bytes: &[u8], text: &mut [u8; TEXT_MAX]) -> Output
 pub fn print_sheet(bytes: &[u8], text: &mut [u8]) -> Result<Output, Refusal>
     ensures { PrintPromise bytes.now text.old result text.new }
 {
+    // Kept: an array with room for every text, as there is no heap.
     let mut whole = [0u8; TEXT_MAX];
     let output = put_sheet(bytes, &mut whole);
     let end = output.end;

@@ -75,6 +75,7 @@ pub fn all_limits() -> [u64; 20]
     ]
 }
 
+// Kept, refusal numbers and kinds: the C interface has numbers, and the definitions tie these lists (all_refusals, all_kinds).
 pub const PICTURES: u8 = 1;
 
 pub const LENGTHS: u8 = 2;

@@ -24,6 +24,7 @@ pub enum Verdict {
     Late(usize, u64),
 }
 
+// The first late picture, or none, as a verdict.
 impl From<Option<Late>> for Verdict {
     ghost from_gives = { λ late v. verdict_of v ≡ seen_of late };
 

@@ -1,5 +1,6 @@
 // Text into a lent list of bytes: numbers in decimal, the line of a refusal, the lines of a table. Each function answers the
 // entry behind what it put. Serves document 01, "The sheet and the printed table".
+// Kept, in place of Display: what is promised is which bytes stand where in a lent list (Put), each function's own (Room).
 
 #![tactic(auto)]
 
