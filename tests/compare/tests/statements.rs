@@ -139,7 +139,10 @@ fn what_is_amiss_is_noticed() {
         ("`is_outside`, ", "`is_outside`, `is_inside`, "),
         ("`Refusal::number`, ", ""),
         ("`PlannerBucket::from`, ", ""),
-        ("`PlannerBucket::from`, ", "`PlannerBucket::into`, "),
+        (
+            "`PlannerBucket::from`, ",
+            "`PlannerBucket::from`, `PlannerBucket::into`, ",
+        ),
         ("`needs_of-one`", "`needs_of-two`"),
         (
             "`judgement`: `judgement_of-one`",
