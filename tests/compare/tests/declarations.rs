@@ -1,7 +1,8 @@
 //! The boundary as it is written: the library (crates/*/src), include/planner.h and the wrapper
 //! (rust/src) declare the same structs and functions, and the comparison has every function but the
 //! version's. Every export (crates/planner_c/src) has the arguments and the clauses of the function of
-//! its name (crates/planner/src), and calls it. Constants: constants.rs.
+//! its name (crates/planner/src), and calls it; it promises one thing, the promise that
+//! crates/planner/specs has for it. Constants: constants.rs.
 
 mod declared;
 mod rules;
@@ -166,7 +167,7 @@ const EDITS: [Edit; 10] = [
 
 const RATTLE_EDITS: [Edit; 3] = [
     (
-        "#[repr(C)] #[derive(Drop)] pub struct PlannerText {",
+        "#[repr(C)] #[derive(Clone, Copy, Debug, Default, PartialEq, Eq)] pub struct PlannerText {",
         "#[repr(C)]",
         "",
     ),
@@ -230,7 +231,7 @@ const REFUSED: [(usize, Edit); 6] = [
     (
         0,
         (
-            "#[repr(C)] #[derive(Drop)] pub struct PlannerText {",
+            "#[repr(C)] #[derive(Clone, Copy, Debug, Default, PartialEq, Eq)] pub struct PlannerText {",
             "repr(C)",
             "repr(C, packed)",
         ),
@@ -376,5 +377,103 @@ fn an_export_that_is_unlike_is_noticed() {
         assert_eq!(exports.matches(old).count(), 1, "{old}");
         let edited = exports.replace(old, new);
         assert_eq!(unlike(&edited, &functions).len(), 1, "{old} to {new}");
+    }
+}
+
+/// The promise of each export of planner_c, by the export's name: crates/planner/specs/ defines it, and
+/// lists it beside that name.
+fn listed_promises() -> BTreeMap<String, String> {
+    let specs = text_below(&root().join("crates/planner/specs"), "antt");
+    let listed = specs.lines().filter_map(|line| {
+        let (promise, rest) = line
+            .strip_prefix("--     ")
+            .filter(|line| line.starts_with("Exported"))?
+            .split_once(' ')?;
+        let name = rest.trim_start().strip_prefix("planner_")?;
+        let name = name.split(',').next()?;
+        Some((name.to_string(), promise.to_string()))
+    });
+    let listed: BTreeMap<String, String> = listed.collect();
+    let defined = specs.lines().filter_map(|line| {
+        let (name, _) = line
+            .strip_prefix("abbrev pub Exported")?
+            .split_once(" : ")?;
+        Some(format!("Exported{name}"))
+    });
+    let mut defined: Vec<String> = defined.collect();
+    defined.sort();
+    // No two exports have the same one.
+    let mut promises: Vec<String> = listed.values().cloned().collect();
+    promises.sort();
+    assert_eq!(promises, defined);
+    defined.dedup();
+    assert_eq!(promises, defined);
+    listed
+}
+
+/// The exports that promise anything but their own promise, or in more than one clause.
+fn strangely_promised(exports: &str) -> Vec<String> {
+    let listed = listed_promises();
+    // What a clause names is what `planner` defines under that name.
+    let uses = exports.split("ghost use ").skip(1);
+    for used in uses.map(|rest| rest.split(';').next().unwrap()) {
+        let promises = used.contains("Exported");
+        assert!(!promises || used.starts_with("Rattle.planner.specs."));
+        assert!(!used.contains(" as "), "{used}");
+    }
+    let exports = promised(exports);
+    assert!(exports.keys().eq(listed.keys()), "an export without a line");
+    let is_strange = |(name, (contract, _)): &(&String, &(String, String))| {
+        let (_, clauses) = contract.split_once(" -> ").unwrap();
+        let (returned, clause) = clauses.split_once(" ensures { ").unwrap();
+        let plain = |c: char| c.is_ascii_alphanumeric() || "_.() ".contains(c);
+        let (promise, arguments) = clause.split_once(' ').unwrap_or((clause, ""));
+        returned.contains(' ')
+            || promise != listed[*name]
+            || !arguments.chars().all(plain)
+            || !arguments.split(' ').any(|word| word == "result")
+    };
+    let strange = exports.iter().filter(is_strange);
+    strange.map(|(name, _)| name.clone()).collect()
+}
+
+#[test]
+fn every_export_promises_its_own() {
+    assert_eq!(listed_promises().len(), OPERATIONS.len() + 1);
+    assert_eq!(strangely_promised(&plain_of("planner_c")), [""; 0]);
+}
+
+#[test]
+fn a_promise_of_another_is_noticed() {
+    let exports = plain_of("planner_c");
+    let least = "ensures { ExportedLeast (recording sizes.now ticks.now ts nu) rate result }";
+    let two = format!("{least} {least}");
+    let or_else = least.replace("result", "result ⊎ Unit {0}");
+    let nothing = least.replace("rate result", "rate rate");
+    for (old, new) in [
+        (least, "ensures { Unit {0} }"),
+        (least, &two),
+        (least, &or_else),
+        (least, &nothing),
+        ("ensures { ExportedLeast ", "ensures { ExportedLookup "),
+        ("ensures { ExportedSeconds ", "ensures { ExportedPanel "),
+        (
+            "ensures { ExportedVersion ",
+            "requires { ⊥ } ensures { ExportedVersion ",
+        ),
+    ] {
+        assert_eq!(exports.matches(old).count(), 1, "{old}");
+        let edited = exports.replace(old, new);
+        assert_eq!(strangely_promised(&edited).len(), 1, "{old} to {new}");
+    }
+    for (old, new) in [
+        ("{ExportedVersion}", "{ExportedLeast as ExportedVersion}"),
+        ("planner.specs.Version.{", "planner_c.specs.Version.{"),
+        ("fn planner_version(", "fn planner_versions("),
+    ] {
+        assert_eq!(exports.matches(old).count(), 1, "{old}");
+        let edited = exports.replace(old, new);
+        let read = std::panic::catch_unwind(|| strangely_promised(&edited));
+        assert!(read.is_err(), "{old} to {new}");
     }
 }

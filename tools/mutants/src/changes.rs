@@ -70,9 +70,11 @@ impl<'a> Changer<'a> {
         let mut found = Vec::new();
         let mut at = self.body.start;
         while at < self.body.end {
-            if self.tokens[at].text == "let" {
-                at = self.tokens.find(at, &["="]);
-            }
+            at = match self.tokens[at].text {
+                "let" => self.tokens.find(at, &["="]),
+                "for" => self.tokens.find(at, &["in"]),
+                _ => at,
+            };
             let here = [self.comparison(at), self.constant(at), self.operand(at)];
             let here = here.into_iter().flatten();
             found.extend(here.map(|new| (self.tokens.bytes(at..at + 1), new)));

@@ -55,13 +55,24 @@ impl<'a> File<'a> {
             functions: Vec::new(),
         };
         let mut at = 0;
+        let mut owner = ("", 0..0);
         while at < file.tokens.len() {
             at = match file.tokens[at].text {
+                "impl" => {
+                    let open = file.tokens.find(at, &["{"]);
+                    let of_trait = file.tokens.find(at, &["for"]);
+                    let kind = if of_trait < open { of_trait } else { at } + 1;
+                    owner = (file.tokens[kind].text, file.tokens.inside(open));
+                    open + 1
+                }
                 "use" => file.tokens.find(at, &[";"]),
                 "const" => file.read_constant(at + 1),
                 "struct" => file.read_struct(at + 1),
                 "enum" => file.read_enum(at + 1),
-                "fn" => file.read_function(at + 1),
+                "fn" => {
+                    let owner = if owner.1.contains(&at) { owner.0 } else { "" };
+                    file.read_function(at + 1, owner)
+                }
                 _ => at + 1,
             };
         }
@@ -92,14 +103,14 @@ impl<'a> File<'a> {
         for variant in tokens.parts(tokens.inside(open)) {
             let name = format!("{}::{}", tokens[at].text, tokens[variant.start].text);
             let held = tokens.parts(tokens.inside(variant.start + 1));
-            let kinds = held.into_iter().map(|held| tokens.joined(held));
+            let kinds = held.into_iter().map(|held| tokens.kind(held));
             self.variants.push((name, kinds.collect()));
         }
         tokens.partner(open)
     }
 
-    /// The body is the first block that belongs to no clause.
-    fn read_function(&mut self, at: usize) -> usize {
+    /// The body is the first block that belongs to no clause. In a method `self` has the type that is named.
+    fn read_function(&mut self, at: usize, owner: &str) -> usize {
         let tokens = &self.tokens;
         let params = tokens.find(at, &["("]);
         let mut open = tokens.find(params, &["{", ";"]);
@@ -111,10 +122,15 @@ impl<'a> File<'a> {
         let answer = tokens.partner(params) + 2;
         self.functions.push(Typed {
             name: tokens[at].text,
-            kind: tokens.joined(answer.min(answer_end)..answer_end),
+            kind: tokens.kind(answer.min(answer_end)..answer_end),
         });
+        let mut typed = self.all_typed(tokens.inside(params));
+        if !owner.is_empty() {
+            let (name, kind) = ("self", owner.to_string());
+            typed.push(Typed { name, kind });
+        }
         self.codes.push(Code {
-            params: self.all_typed(tokens.inside(params)),
+            params: typed,
             body: tokens.inside(open),
         });
         tokens.partner(open)
@@ -137,7 +153,7 @@ impl<'a> File<'a> {
         let colon = self.tokens.find(part.start, &[":"]);
         (part.start < colon && colon < part.end).then(|| Typed {
             name: self.tokens[colon - 1].text,
-            kind: self.tokens.joined(colon + 1..part.end),
+            kind: self.tokens.kind(colon + 1..part.end),
         })
     }
 }

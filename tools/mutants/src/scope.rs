@@ -26,6 +26,7 @@ impl<'a> Scope<'a> {
         for at in code.body.clone() {
             match file.tokens[at].text {
                 "let" => scope.read_let(at),
+                "for" => scope.read_for(at),
                 "=>" => scope.read_arm(at),
                 _ => {}
             }
@@ -64,45 +65,116 @@ impl<'a> Scope<'a> {
         let equals = tokens.find(at, &["="]);
         if let "if" | "while" = tokens[at - 1].text {
             let block = tokens.find(equals, &["{"]);
-            self.bind(at + 1..equals, String::new(), tokens.inside(block));
+            let kind = self.type_of(equals + 1..block);
+            self.bind(at + 1..equals, &kind, tokens.inside(block));
         } else {
             let end = tokens.find(equals, &[";", "else"]);
-            let kind = self.type_of(equals + 1..end);
+            let colon = tokens.find(at, &[":"]);
+            let (pattern, kind) = if colon < equals {
+                (at + 1..colon, tokens.kind(colon + 1..equals))
+            } else {
+                (at + 1..equals, self.type_of(equals + 1..end))
+            };
             let block = tokens.inside(tokens.opener(at));
-            self.bind(at + 1..equals, kind, end..block.end);
+            self.bind(pattern, &kind, end..block.end);
         }
     }
 
-    /// `pattern => value`, where the pattern is a variant.
+    /// `for pattern in values { .. }`, where the values are numbers of a range or entries of a list.
+    fn read_for(&mut self, at: usize) {
+        let tokens = self.tokens;
+        let within = tokens.find(at, &["in"]);
+        let block = tokens.find(within, &["{"]);
+        let values = within + 1..block;
+        let words: Vec<&str> = values.clone().map(|it| tokens[it].text).collect();
+        let kind = if words.contains(&"..") {
+            self.type_of(values)
+        } else {
+            let item = entry(&self.variable(values.start).unwrap_or_default());
+            match words.as_slice() {
+                [_, ".", "iter", "(", ")"] => item,
+                [_, ".", "iter", "(", ")", ".", "enumerate", "(", ")"] => format!("(usize,{item})"),
+                _ => String::new(),
+            }
+        };
+        self.bind(at + 1..within, &kind, tokens.inside(block));
+    }
+
+    /// `pattern => value`, `pattern if test => value`.
     fn read_arm(&mut self, at: usize) {
         let tokens = self.tokens;
-        let open = tokens.partner(at - 1);
-        if tokens[open].text == "(" {
-            let end = tokens.find(at, &[",", "}"]);
-            self.bind(open - 3..at, String::new(), at..end);
+        let open = tokens.opener(at);
+        let is_before = |it: usize| match tokens[it].text {
+            "," => true,
+            "}" => tokens[tokens.partner(it) - 1].text == "=>",
+            _ => false,
+        };
+        let mut start = at;
+        while start > open + 1 && !is_before(start - 1) {
+            start = tokens.partner(start - 1).min(start - 1);
         }
+        let end = tokens.find(start, &["if"]).min(at);
+        let place = if tokens.text(at + 1) == "{" {
+            end..tokens.partner(at + 1)
+        } else {
+            end..tokens.find(at, &[",", "}"])
+        };
+        let mut asked = open;
+        while asked > 0 && tokens[asked].text != "match" {
+            asked -= 1;
+        }
+        let kind = self.type_of(asked + 1..open);
+        self.bind(start..end, &kind, place);
     }
 
-    /// A variant's pattern binds what the variant holds; any other is a name, typed or not.
-    fn bind(&mut self, pattern: Range<usize>, value: String, place: Range<usize>) {
+    /// What a pattern binds: a name, or the names in what a variant, a struct or a pair holds. Of several patterns each
+    /// binds the same.
+    fn bind(&mut self, pattern: Range<usize>, kind: &str, place: Range<usize>) {
         let tokens = self.tokens;
-        let end = tokens.find(pattern.start, &["(", ":", "="]);
-        if tokens[end].text == "(" {
-            let variant = tokens.joined(pattern.start..end);
-            let held = self.declared.held(&variant).unwrap_or_default();
-            for (name, kind) in tokens.parts(tokens.inside(end)).into_iter().zip(held) {
-                let (name, kind) = (tokens[name.start].text, kind.clone());
-                self.variables.push((Typed { name, kind }, place.clone()));
+        let end = tokens.find(pattern.start, &["|"]).min(pattern.end);
+        let mut start = pattern.start;
+        while start < end && ["&", "mut", "ref"].contains(&tokens[start].text) {
+            start += 1;
+        }
+        if start >= end {
+            return;
+        }
+        let open = tokens.partner(end - 1);
+        let head = tokens.kind(start..open.max(start));
+        match tokens[open].text {
+            "(" => {
+                let held = match head.as_str() {
+                    "" => parts(kind.strip_prefix('(').unwrap_or("").trim_end_matches(')')),
+                    "Ok" | "Some" => parts(inner(kind)).into_iter().take(1).collect(),
+                    "Err" => parts(inner(kind)).into_iter().skip(1).collect(),
+                    _ => self.declared.held(&head).unwrap_or_default().to_vec(),
+                };
+                let held = held.into_iter().chain(std::iter::repeat(String::new()));
+                for (part, kind) in tokens.parts(tokens.inside(open)).into_iter().zip(held) {
+                    self.bind(part, &kind, place.clone());
+                }
             }
-        } else {
-            let is_typed = tokens[end].text == ":";
-            let kind = if is_typed {
-                tokens.joined(end + 1..pattern.end)
-            } else {
-                value
-            };
-            let name = tokens[end - 1].text;
-            self.variables.push((Typed { name, kind }, place));
+            "{" => {
+                let fields = self.declared.fields(&head).unwrap_or_default();
+                for part in tokens.parts(tokens.inside(open)) {
+                    let field = named(fields, tokens[part.start].text);
+                    let kind = field.map_or("", |it| it.kind.as_str());
+                    let colon = tokens.find(part.start, &[":"]);
+                    let from = if colon < part.end {
+                        colon + 1
+                    } else {
+                        part.start
+                    };
+                    self.bind(from..part.end, kind, place.clone());
+                }
+            }
+            name => {
+                let is_name = name.starts_with(|c: char| c.is_lowercase());
+                if is_name && start + 1 == end && tokens[start].kind == Kind::Name {
+                    let kind = kind.to_string();
+                    self.variables.push((Typed { name, kind }, place));
+                }
+            }
         }
     }
 
@@ -148,14 +220,12 @@ impl<'a> Scope<'a> {
         match (kind, tokens.text(at + 1)) {
             (Kind::Integer, _) => Some(NUMBER.to_string()),
             (Kind::Name, "::") => None,
-            (Kind::Name, "(") => Some(self.declared.answer(text).unwrap_or_default().to_string()),
-            (Kind::Name, "{") => Some(text.to_string()),
-            (Kind::Name, ".") if tokens.text(at + 3) == "(" => Some("usize".to_string()),
-            (Kind::Name, ".") => {
-                let field = named(self.fields(at)?, tokens[at + 2].text);
-                field.map(|it| it.kind.clone())
+            (Kind::Name, "(") => {
+                let answer = self.declared.answer(text).unwrap_or_default();
+                self.behind(tokens.partner(at + 1) + 1, answer.to_string())
             }
-            (Kind::Name, "[") => self.variable(at).map(|list| entry(&list)),
+            (Kind::Name, "{") => Some(text.to_string()),
+            (Kind::Name, "." | "[") => self.behind(at + 1, self.variable(at).unwrap_or_default()),
             (Kind::Name, _) => self.variable(at).or_else(|| {
                 let (_, constants) = self.declared.constants(text)?;
                 named(constants, text).map(|it| it.kind.clone())
@@ -163,13 +233,54 @@ impl<'a> Scope<'a> {
             _ => None,
         }
     }
+
+    /// The type of an operand of which this one is the beginning: its fields, entries and methods, and what a `?` lets
+    /// through.
+    fn behind(&self, at: usize, kind: String) -> Option<String> {
+        let tokens = self.tokens;
+        let (next, kind) = match tokens.text(at) {
+            "?" => (at + 1, parts(inner(&kind)).into_iter().next()?),
+            "[" => (tokens.partner(at) + 1, entry(&kind)),
+            "." if tokens.text(at + 2) == "(" => {
+                let kind = match tokens[at + 1].text {
+                    "len" => "usize",
+                    "max" | "min" | "saturating_sub" => &kind,
+                    name => self.declared.answer(name).unwrap_or_default(),
+                };
+                (tokens.partner(at + 2) + 1, kind.to_string())
+            }
+            "." => {
+                let field = named(self.declared.fields(&kind)?, tokens[at + 1].text)?;
+                (at + 2, field.kind.clone())
+            }
+            _ => return Some(kind),
+        };
+        self.behind(next, kind)
+    }
 }
 
 /// The type of an entry of a list.
 fn entry(list: &str) -> String {
-    let entry = list
-        .trim_start_matches("&")
-        .trim_start_matches("mut")
-        .trim_start_matches("[");
+    let entry = list.split_once('[').map_or("", |it| it.1);
     entry.chars().take_while(|c| c.is_alphanumeric()).collect()
+}
+
+/// What stands between the angles of a type.
+fn inner(kind: &str) -> &str {
+    let inner = kind.split_once('<').map_or("", |it| it.1);
+    inner.strip_suffix('>').unwrap_or("")
+}
+
+/// The types of a list of them that commas separate.
+fn parts(kinds: &str) -> Vec<String> {
+    let mut parts = vec![String::new()];
+    let mut depth = 0;
+    for c in kinds.chars() {
+        depth += i32::from("<([".contains(c)) - i32::from(">)]".contains(c));
+        match c {
+            ',' if depth == 0 => parts.push(String::new()),
+            _ => parts.last_mut().unwrap().push(c),
+        }
+    }
+    parts
 }

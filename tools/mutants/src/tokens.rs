@@ -116,6 +116,15 @@ impl<'a> Tokens<'a> {
         self.list[range].iter().map(|token| token.text).collect()
     }
 
+    /// The same of a type, without its lifetimes.
+    pub fn kind(&self, range: Range<usize>) -> String {
+        let is_lifetime =
+            |at: &usize| self.text(*at) == "'" || self.text(at.wrapping_sub(1)) == "'";
+        let kept = range.filter(|at| !is_lifetime(at));
+        let kind: String = kept.map(|at| self[at].text).collect();
+        kind.replace("<>", "").replace("<,", "<")
+    }
+
     /// The bytes of some tokens.
     pub fn bytes(&self, range: Range<usize>) -> Range<usize> {
         let last = self[range.end - 1];

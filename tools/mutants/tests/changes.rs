@@ -12,6 +12,8 @@ const DECLARED: &str = "\
     struct Pair { first: u64, second: u64, third: u8 }
     enum Found { At(usize, u64), Nothing }
     fn count() -> u8 ensures { result < 1 } { x() }
+    fn given() -> Result<Found, Pair> ensures { result < 1 } { x() }
+    fn f() -> Option<u64> { x() }
     fn few() -> u8 requires { 0 < 1 } ensures few { result < 1 } ensures { 0 < 1 } { x() }
 ";
 
@@ -104,6 +106,74 @@ fn patterns_bind_what_a_variant_holds() {
     check("let Found::At(i, _) = found else {};\ny(i)", &["y(n)"]);
     check("if let Found::At(_, u) = found {\ny(u) }", &["y(v) }"]);
     check("match found { Found::At(_, u) =>\ny(u) }", &["y(v) }"]);
+}
+
+#[test]
+fn arms_bind_what_their_patterns_hold() {
+    check(
+        "match found { Found::Nothing => v, Found::At(i, _) =>\ny(i) }",
+        &["y(n) }"],
+    );
+    check(
+        "match f() { Some(u) if\ny(u) => a(), None => b() }",
+        &["y(v) => a(), None => b() }"],
+    );
+    check("match few() { u | (u) =>\ny(u) }", &["y(c) }"]);
+    check(
+        "match z { Found::At(_, u) => { x() } Found::Nothing =>\ny(u) }",
+        &[],
+    );
+    check(
+        "match given() { Ok(Found::At(i, _)) =>\ny(i), Err(_) => b() }",
+        &["y(n), Err(_) => b() }"],
+    );
+}
+
+#[test]
+fn patterns_bind_the_fields_of_a_struct() {
+    check("let Pair { first, third: t, .. } = p;\ny(t)", &["y(c)"]);
+    check("let Pair { first, third: t, .. } = p;\ny(first)", &["y(v)"]);
+    check(
+        "let (Pair { first, .. }, u) = x();\ny(first, u)",
+        &["y(v, u)"],
+    );
+    check(
+        "if let Ok(Pair { third, .. }) = x() {\ny(third) }",
+        &["y(c) }"],
+    );
+}
+
+#[test]
+fn loops_bind_numbers_and_entries() {
+    check("for k in 0..list.len() {\ny(k) }", &["y(n) }"]);
+    check(
+        "for (k, &e) in list.iter().enumerate() {\ny(e) }",
+        &["y(c) }"],
+    );
+    check(
+        "for (k, &e) in list.iter().enumerate() {\ny(k) }",
+        &["y(n) }"],
+    );
+    check("for e in list.iter() {\ny(e) }", &["y(c) }"]);
+    check("for e in list.iter().rev() {\ny(e) }", &[]);
+}
+
+#[test]
+fn values_have_the_type_of_their_last_part() {
+    check("let l = given()?;\ny(l)", &["y(found)"]);
+    check("let l = p.first.max(x());\ny(l)", &["y(v)"]);
+    check("let l = p.first.few();\ny(l)", &["y(c)"]);
+}
+
+#[test]
+fn methods() {
+    let source = "struct Two<'a> { a: &'a [u8], b: &'a [u8], n: u8 }\n\
+        impl Two<'_> { fn f(self) -> u8 {\nx(self.a)\n} }\n\
+        impl From<u8> for Two<'_> { ghost from_gives = { λ x. 1 < 2 };\n\
+        fn from(n: u8, m: u8) -> Two {\nx(n)\n} }\n";
+    let found = changes_of(source);
+    let news: Vec<&str> = found.iter().map(|it| it.new.as_str()).collect();
+    assert_eq!(news, ["x(self.b)", "x(m)"]);
 }
 
 #[test]
