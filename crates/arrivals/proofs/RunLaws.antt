@@ -1,11 +1,11 @@
 -- The loop of `run`, one picture a turn. Definitions: model/specs/Arrival.antt, specs/Seen.antt.
---     Running                                                                          the invariant: the line is free from the last end on, and what was seen is the verdict on the pictures passed
---     Arrives                                                                          start, end and units late of a picture
---     begun                                                                            the invariant before the first picture
+--     Running          the invariant: the line is free from the last end on, and what was seen is the verdict on the pictures passed
+--     Arrives          start, end and units late of a picture
+--     begun            the invariant before the first picture
 --     rises, end-fit   what the code computes fits the word
---     arrives                                                                          what `arrive` answers in a turn is the picture's arrival
---     next                                                                             the invariant after a turn
---     done                                                                             and after the last
+--     arrives          what `arrive` answers in a turn is the picture's arrival
+--     next             the invariant after a turn
+--     done             and after the last
 -- Assumes nothing.
 use Prim.Native.Nat.{ℕ, ◌+◌, ◌-◌, ◌*◌, ◌≤◌, ◌<◌, max, zero-le}
 use native.Mathlib.Nat.{le_antisymm}
