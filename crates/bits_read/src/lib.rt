@@ -1,5 +1,5 @@
 // Bits of a lent byte list, most significant first: reading one code, u(n) or ue(v). Serves document 01, "HRD parameter bits".
-// Kept: a list and a position, of which the promises speak; a reader of both would hold the same two.
+// Kept: a list and a position, of which the promises speak (read_code, by bits_of); a reader of both would hold the same two.
 
 #![tactic(auto)]
 

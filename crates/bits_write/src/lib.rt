@@ -1,5 +1,6 @@
 // Bits of a lent byte list, most significant first: writing one code, u(n) or ue(v). Serves document 01, "HRD parameter bits".
-// Kept: a list and a position, of which the promises speak; and plain values v, as a type for those up to VALUE_MAX would ask more of callers.
+// Kept: a list and a position, of which the promises speak (put_bits); and plain values v, as a type for the one bound of ue(v) would be made
+// for a call and opened behind it.
 
 #![tactic(auto)]
 

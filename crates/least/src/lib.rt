@@ -36,6 +36,7 @@ fn fill(judged: Judged, rates: &[u64], buffers: &mut [u64], fullnesses: &mut [u6
 }
 
 // Writes the least figures at every rate of a list to two lent lists from entry `at` on: refusals 1 to 6 and 8.
+// Kept: two lists, as the C interface lends them.
 pub fn table(
     recording: Recording,
     rates: &[u64],

@@ -63,7 +63,7 @@ fn measure(judged: Judged, rate: u64) -> Needs
     m
 }
 
-// The least figures of a recording that was judged, at a rate that was judged. Kept: the rate a number, as its one bound is no plainer as a type.
+// The least figures of a recording that was judged, at a rate that was judged. Kept: the rate a number, whose one bound judge_rate gives.
 pub fn least_at(judged: Judged, rate: u64) -> Bucket
     requires { rate ≤ rate_max }
     ensures { bucket_of result ≡ least_bucket (recording_of judged.entry.recording) rate }

@@ -80,7 +80,8 @@ impl Field {
     }
 }
 
-// Field number f of a record with n rows.
+// Field number f of a record with n rows. Kept: fields and columns by number, with the bounds beside them, as the definitions count them
+// (get_or (fields_of n) f, row_field).
 pub fn field_at(n: usize, f: usize) -> Field
     requires { (n ≤ cpb_cnt_max) × (f < 3 + 3 * n + 4) }
     ensures { field_of result ≡ get_or (fields_of n) f cpb_cnt_minus1 }

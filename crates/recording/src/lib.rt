@@ -5,7 +5,7 @@
 
 pub mod judged;
 
-// Sizes in bits and removal ticks of the pictures, TS and NU.
+// Sizes in bits and removal ticks of the pictures, TS and NU. Kept: two lists, as the C interface lends them.
 #[derive(Clone, Copy)]
 pub struct Recording<'a> {
     pub sizes: &'a [u64],

@@ -17,7 +17,7 @@ use recording::judged::{Judged, JudgedBucket};
 use recording::{Bucket, Recording};
 
 // The recording holds; or the first late picture and its units.
-// Kept, in place of an Option: the demands (Exactly, LateOrNone) say Holds and Late.
+// Kept, in place of an Option: document 01 names both verdicts, and Ok(None) for the one that holds would read as no answer.
 #[derive(Clone, Copy, Debug, PartialEq, Eq)]
 pub enum Verdict {
     Holds,
@@ -58,6 +58,7 @@ pub fn bucket_verdict(recording: Recording, bucket: Bucket) -> Result<Verdict, R
 }
 
 // Writes the schedule to two lent lists from entry `at` on, late or not, and answers the verdict: refusals 1 to 8.
+// Kept: two lists, as the C interface lends them.
 pub fn schedule(
     recording: Recording,
     bucket: Bucket,

@@ -81,6 +81,7 @@ fn judge_lists(bytes: &[u8], head: Head) -> Judgement
 }
 
 // Opens a sheet: writes its sizes, ticks and rates to the first entries of three lent lists. Refusals 12, 1, 6, 3, 4, 5, 8.
+// Kept: three lists, as the C interface lends them.
 pub fn open_sheet(
     bytes: &[u8],
     sizes: &mut [u64],

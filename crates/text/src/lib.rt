@@ -1,6 +1,7 @@
 // Text into a lent list of bytes: numbers in decimal, the line of a refusal, the lines of a table. Each function answers the
 // entry behind what it put. Serves document 01, "The sheet and the printed table".
-// Kept, in place of Display: what is promised is which bytes stand where in a lent list (Put), each function's own (Room).
+// Kept, in place of Display: what is promised is which bytes stand where in a lent list; and list and entry side by side, each function with
+// room for its own bytes, as both definitions have them (Put, Room).
 
 #![tactic(auto)]
 
@@ -32,7 +33,7 @@ fn put_decimal(n: u64, text: &mut [u8], at: usize) -> usize
     end + 1
 }
 
-// Puts the line of a refusal.
+// Puts the line of a refusal. Kept: number and place, of which the line is made (refusal_line), for every number.
 #[tactic(auto, unfolding(layout::specs::Text::letters))]
 pub fn put_refusal(number: u8, place: usize, text: &mut [u8]) -> usize
     requires { Room text.old 0 (refusal_line number place) }
@@ -45,7 +46,7 @@ pub fn put_refusal(number: u8, place: usize, text: &mut [u8]) -> usize
     put_bytes(b"\n", text, placed)
 }
 
-// Puts the line of one rate.
+// Puts the line of one rate. Kept: three numbers, as row_line has them.
 #[tactic(auto, unfolding(layout::specs::Text::letters))]
 fn put_row(rate: u64, buffer: u64, fullness: u64, text: &mut [u8], at: usize) -> usize
     requires { Room text.old at (row_line rate buffer fullness) }
@@ -59,7 +60,7 @@ fn put_row(rate: u64, buffer: u64, fullness: u64, text: &mut [u8], at: usize) ->
     put_bytes(b"\n", text, filled)
 }
 
-// Puts a whole table: the header line, and the line of each rate.
+// Puts a whole table: the header line, and the line of each rate. Kept: three lists, as table_text has them.
 #[tactic(auto, unfolding(layout::specs::Text::letters))]
 pub fn put_table(rates: &[u64], buffers: &[u64], fullnesses: &[u64], text: &mut [u8]) -> usize
     requires { Room text.old 0 (table_text rates.now buffers.now fullnesses.now) × (length rates.now ≤ length buffers.now) × (length rates.now ≤ length fullnesses.now) }
