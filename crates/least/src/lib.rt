@@ -28,6 +28,7 @@ fn fill(judged: Judged, rates: &[u64], buffers: &mut [u64], fullnesses: &mut [u6
     requires { RatesWithin rates.now × (length rates.now ≤ length buffers.old) × (length rates.now ≤ length fullnesses.old) }
     ensures { (buffers.new ≡ written buffers.old 0 (map (least_buffer (recording_of judged.entry.recording)) rates.now)) × (fullnesses.new ≡ written fullnesses.old 0 (map (least_fullness (recording_of judged.entry.recording)) rates.now)) }
 {
+    // Kept: stores by index, as a zip with `iter_mut` says nothing of what the lists end as.
     for (i, &rate) in rates.iter().enumerate() {
         let bucket = needs::least_at(judged, rate);
         buffers[i] = bucket.buffer;

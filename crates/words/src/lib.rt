@@ -20,7 +20,7 @@ pub fn read_words(bytes: &[u8], from: usize, count: usize, words: &mut [u64])
     requires { (from + 4 * count ≤ length bytes.now) × (count ≤ length words.old) }
     ensures { words.new ≡ written words.old 0 (words_at bytes.now from count) }
 {
-    for i in 0..count {
-        words[i] = word_at(bytes, from + 4 * i);
+    for (i, word) in words[..count].iter_mut().enumerate() {
+        *word = word_at(bytes, from + 4 * i);
     }
 }
