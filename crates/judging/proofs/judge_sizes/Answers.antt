@@ -1,4 +1,5 @@
 -- `judging::judge_sizes` meets its contract: `position` gives the first size that is refused, or there is none.
+--     Refused, Passed    what the test says of a size
 -- Assumes nothing.
 use Prim.Native.Nat.{ℕ, zero-le}
 use native.Mathlib.Nat.{le_refl}
