@@ -40,17 +40,16 @@ pub fn is_bad_bucket(buffer: u64, fullness: u64) -> bool
 }
 
 // Judges the sizes, each by itself: refusal 4.
-// Kept beside judge_ticks and judge_rate_list, a loop each: one function over a closure would have to name the definition that the closure
-// computes, and say what it may be asked.
 fn judge_sizes(sizes: &[u64]) -> Judgement
     ensures { judgement_of result ≡ first_fault refusal.size (bad_size sizes.now) (length sizes.now) }
 {
-    for (i, &size) in sizes.iter().enumerate() {
-        if numbers::is_outside(1, SIZE_MAX, size) {
-            return Err(Refusal::Size(i));
-        }
+    match sizes
+        .iter()
+        .position(|size| numbers::is_outside(1, SIZE_MAX, *size))
+    {
+        Some(i) => Err(Refusal::Size(i)),
+        None => Ok(()),
     }
-    Ok(())
 }
 
 // Whether a tick is not above the one before or lies too far from the first.
@@ -62,6 +61,8 @@ fn is_bad_tick(first: u64, before: u64, tick: u64) -> bool
 }
 
 // Judges the ticks, each by the one before and the first: refusal 5.
+// Kept beside judge_rate_list, two loops that lean on the entry before: one function over a closure would have to name the definition
+// that the closure computes, and say what it may be asked.
 fn judge_ticks(ticks: &[u64]) -> Judgement
     ensures { judgement_of result ≡ first_fault refusal.tick (bad_tick ticks.now) (length ticks.now) }
 {

@@ -99,13 +99,13 @@ fn judge_span(table: Table) -> Judgement
     )
 }
 
-// Judges the buffers and fullnesses of as many rows as both lists have: refusal 7. Kept, a loop of its own, as judging's are.
+// Judges the buffers and fullnesses of as many rows as both lists have: refusal 7. Kept, a loop of its own, as judging's judge_ticks is.
 fn judge_rows(buffers: &[u64], fullnesses: &[u64]) -> Judgement
     requires { length fullnesses.now ≡ length buffers.now }
     ensures { judgement_of result ≡ first_fault refusal.bucket (bad_row buffers.now fullnesses.now) (length buffers.now) }
 {
-    for (i, &buffer) in buffers.iter().enumerate() {
-        if judging::is_bad_bucket(buffer, fullnesses[i]) {
+    for (i, (&buffer, &fullness)) in buffers.iter().zip(fullnesses).enumerate() {
+        if judging::is_bad_bucket(buffer, fullness) {
             return Err(Refusal::Bucket(i));
         }
     }
