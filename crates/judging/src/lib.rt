@@ -18,7 +18,7 @@ use recording::judged::{Judged, JudgedBucket};
 use recording::{Bucket, Recording};
 use rules::{BUCKET_MAX, NU_MAX, PICTURES_MAX, RATE_MAX, ROWS_MAX, SIZE_MAX, SPAN_MAX, TS_MAX};
 
-// Whether TS or NU is out of range.
+// Whether TS or NU is out of range. Kept: two numbers, of a recording or of a table.
 pub fn is_bad_clock(ts: u64, nu: u64) -> bool
     ensures { result ≡ bad_clock ts nu }
 {
