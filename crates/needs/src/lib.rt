@@ -55,8 +55,7 @@ fn measure(judged: Judged, rate: u64) -> Needs
     let first = ticks[0];
     let mut last = first;
     let mut m = Needs::default();
-    for (i, &size) in sizes.iter().enumerate() {
-        let tick = ticks[i];
+    for (&size, &tick) in sizes.iter().zip(ticks) {
         m = step(m, ts * size, fall * (tick - last), fall * (tick - first));
         last = tick;
     }

@@ -3,6 +3,7 @@
 -- Assumes nothing.
 use Prim.Native.Nat.{ℕ, ◌≤◌}
 use mathlib.Core.Path.{◌≡◌}
+use lib.ListN.{length}
 use Rattle.rules.specs.Limits.{rate_max}
 use Rattle.model.specs.Recording.{Recording, Within, pictures}
 use Rattle.model.specs.Needs.{Needs, tick_before, needs_below}
@@ -18,5 +19,5 @@ pub record Measured (k : Recording) (rate last : ℕ) (m : Needs) (i : ℕ) : Ty
   pub before : last ≡ tick_before k i
   pub needed : m ≡ needs_below k rate i
 
-abbrev pub invariant-loop-i : goal.invariant-loop-i
-invariant-loop-i l = Measured (recording_of l.fn.judged.recording) l.fn.rate l.last (needs_of l.m) l.i
+abbrev pub invariant-loop-size : goal.invariant-loop-size
+invariant-loop-size l = Measured (recording_of l.fn.judged.recording) l.fn.rate l.last (needs_of l.m) (length l.yielded)
