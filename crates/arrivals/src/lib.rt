@@ -86,6 +86,7 @@ pub fn run(
     let first = ticks[0];
     let mut free = 0;
     let mut seen = None;
+    // Kept: ticks[i] in place of a zip, as i numbers the picture and the entries stored.
     for (i, &size) in sizes.iter().enumerate() {
         let a = arrive(free, lead + fall * (ticks[i] - first), hold, ts * size);
         store(starts, i, a.start);
