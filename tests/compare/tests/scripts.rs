@@ -42,7 +42,8 @@ fn folder(name: &str) -> PathBuf {
 }
 
 /// An empty folder outside the repository, which every user may enter; removed in the end. Links
-/// stand in such a folder alone: the prover takes no repository that has some, in whichever folder.
+/// and a list of crates stand in such a folder alone: the prover takes no repository that has some
+/// of them, in whichever folder, and the gate runs again where these tests have run.
 struct Outside(PathBuf);
 
 impl Outside {
@@ -416,10 +417,11 @@ fn path_with_kit(folder: &Path, status: i32) -> String {
 }
 
 fn plan_with_kit(name: &str, status: i32) -> Said {
-    let checkout = folder(name);
-    small_checkout(&checkout);
+    let outside = Outside::new(name);
+    let checkout = &outside.0;
+    small_checkout(checkout);
     let mut command = Command::new(checkout.join("scripts/plan"));
-    command.env("PATH", path_with_kit(&checkout, status));
+    command.env("PATH", path_with_kit(checkout, status));
     run(command.arg("d.sheet").current_dir(checkout))
 }
 
@@ -432,19 +434,20 @@ fn a_program_that_has_to_be_built() {
 
 #[test]
 fn a_text_that_is_cut_short() {
-    let checkout = folder("cut_short");
-    small_checkout(&checkout);
+    let outside = Outside::new("cut-short");
+    let checkout = &outside.0;
+    small_checkout(checkout);
     let cut = "#!/bin/sh\nprintf 'rate buffer start\\n250 10'\n";
     write_program(&checkout.join("crates/plan/out/plan"), cut);
     let mut command = Command::new(checkout.join("scripts/plan"));
-    command.env("PATH", path_with_kit(&checkout, 0));
+    command.env("PATH", path_with_kit(checkout, 0));
     let said = run(command.arg("d.sheet").current_dir(checkout));
     plan_fails(&said, 3, "cut short");
 }
 
 #[test]
 fn a_program_that_is_not_proved_is_not_run() {
-    let said = plan_with_kit("not_proved", 1);
+    let said = plan_with_kit("not-proved", 1);
     prints(&said, 4, "");
     let last = said.err.lines().last().unwrap();
     assert!(last.starts_with("plan: ") && last.ends_with("build/plan.log"));
