@@ -1,7 +1,9 @@
 -- What this crate's answers say, in document 01's numbers and places.
 --     number_of, place_of    of a refusal
---     answer_by              a Result: what is given, read by f; or the refusal
---     judgement_of           whether it is a refusal, and which
+--     answer_in              a Result that refuses by any number and place: what is given, read by f; or the refusal
+--     judgement_in           whether it is a refusal, and which
+--     answer_by              answer_in, of a Refusal
+--     judgement_of           judgement_in, of a Refusal
 -- Assumes nothing.
 use Rattle.std.specs.Prelude.{ℕ, Result, Ok, Err}
 use Rattle.rules.specs.Refusals as refusal
@@ -39,9 +41,15 @@ place_of (Constant i) = i
 place_of Sheet = 0
 place_of Limit = 0
 
+abbrev pub answer_in : {A B R : Type 0} → (R → ℕ) → (R → ℕ) → (A → B) → Result A R → answers.Answer B
+answer_in number place f (Ok x) = answers.given (f x)
+answer_in number place f (Err r) = answers.refused (number r) (place r)
+
+abbrev pub judgement_in : {A R : Type 0} → (R → ℕ) → (R → ℕ) → Result A R → answers.Judgement
+judgement_in number place r = answer_in number place (λ _. tt) r
+
 abbrev pub answer_by : {A B : Type 0} → (A → B) → Result A Refusal → answers.Answer B
-answer_by f (Ok x) = answers.given (f x)
-answer_by f (Err r) = answers.refused (number_of r) (place_of r)
+answer_by f r = answer_in number_of place_of f r
 
 abbrev pub judgement_of : {A : Type 0} → Result A Refusal → answers.Judgement
-judgement_of r = answer_by (λ _. tt) r
+judgement_of r = judgement_in number_of place_of r

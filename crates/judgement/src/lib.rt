@@ -2,10 +2,10 @@
 
 #![tactic(auto)]
 
-ghost use Rattle.std.specs.Prelude.{◌≡◌, [], ◌∷◌, ◌+◌, ◌≤◌, ltb, OnOk};
+ghost use Rattle.std.specs.Prelude.{◌≡◌, [], ◌∷◌, ◌+◌, ◌≤◌, ℕ, ltb, OnOk};
 ghost use Rattle.rules.specs.Refusals as refusal;
 ghost use Rattle.terms.specs.Answers.{refuse_if, lower as lower_of, lowest};
-ghost use Rattle.judgement.specs.Outcome.{number_of, place_of, judgement_of};
+ghost use Rattle.judgement.specs.Outcome.{number_of, place_of, judgement_in, judgement_of};
 
 use rules::{
     BUCKET, CLOCK, CONSTANT, FIELD, LENGTHS, LIMIT, PICTURES, RATE, ROOM, SHEET, SHORT, SIZE, TICK,
@@ -70,21 +70,42 @@ impl Refusal {
     }
 }
 
+// What a judgement refuses with: a number, and a place. Document 01's refusals are one such type; a caller may have others.
+pub trait Numbered: Copy {
+    ghost number_of: { Self → ℕ };
+
+    ghost place_of: { Self → ℕ };
+
+    // The number, by which the lower of two is known.
+    fn rank(self) -> u8
+        ensures { result ≡ number_of self };
+}
+
+impl Numbered for Refusal {
+    ghost number_of = { number_of };
+
+    ghost place_of = { place_of };
+
+    fn rank(self) -> u8 {
+        self.number()
+    }
+}
+
 // The refusal, if the test is true.
 #[tactic(auto, unfolding(terms::specs::Answers::refuse_if))]
-pub fn refuse_if(bad: bool, refusal: Refusal) -> Judgement
-    ensures { judgement_of result ≡ refuse_if bad (number_of refusal) (place_of refusal) }
+pub fn refuse_if<R: Numbered>(bad: bool, refusal: R) -> Result<(), R>
+    ensures { judgement_in R.number_of R.place_of result ≡ refuse_if bad (R.number_of refusal) (R.place_of refusal) }
 {
     if bad { Err(refusal) } else { Ok(()) }
 }
 
 // Of two judgements the refusal with the lower number; of equal numbers the first.
-pub fn lower(a: Judgement, b: Judgement) -> Judgement
-    ensures { judgement_of result ≡ lower_of (judgement_of a) (judgement_of b) }
+pub fn lower<R: Numbered>(a: Result<(), R>, b: Result<(), R>) -> Result<(), R>
+    ensures { judgement_in R.number_of R.place_of result ≡ lower_of (judgement_in R.number_of R.place_of a) (judgement_in R.number_of R.place_of b) }
 {
     match (a, b) {
         (Ok(()), judged) => judged,
-        (Err(first), Err(second)) if second.number() < first.number() => Err(second),
+        (Err(first), Err(second)) if second.rank() < first.rank() => Err(second),
         (Err(first), _) => Err(first),
     }
 }

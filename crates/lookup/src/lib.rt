@@ -104,8 +104,8 @@ fn judge_rows(buffers: &[u64], fullnesses: &[u64]) -> Judgement
     requires { length fullnesses.now ≡ length buffers.now }
     ensures { judgement_of result ≡ first_fault refusal.bucket (bad_row buffers.now fullnesses.now) (length buffers.now) }
 {
-    for (i, (&buffer, &fullness)) in buffers.iter().zip(fullnesses).enumerate() {
-        if judging::is_bad_bucket(buffer, fullness) {
+    for i in 0..buffers.len() {
+        if judging::is_bad_bucket(buffers[i], fullnesses[i]) {
             return Err(Refusal::Bucket(i));
         }
     }

@@ -5,6 +5,7 @@
 --     arrival_start-free    with F at most B every start, that of picture 0 too, is the later of that and the earliest
 --     arrival_start-le      and is at most the units of all bits before and of the ticks since picture 0
 --     starts-length         a schedule has as many entries as pictures
+--     then-late             a picture with some units is late, where none was before
 --     verdict_of-holds      the verdict is "holds" exactly when no picture is late
 --     verdict_of-first      the picture it names is late by its units, at least 1, and no earlier one is late
 -- Assumes nothing.
@@ -56,6 +57,10 @@ starts-length k u = (list_of-length (arrival_start k u) (pictures k), list_of-le
 
 late-not-holds : {i x : ℕ} → late i x ≡ holds → ⊥
 late-not-holds e = let z : ◌≡◌ {A = ℕ} 0 1 = cc in omega arith
+
+pub then-late : (i units : ℕ) → (units ≡ 0 → ⊥) → then holds i units ≡ late i units
+then-late i zero some = absurd (some refl)
+then-late i (suc x) some = refl
 
 -- "holds" after one picture more: it held before, and that picture is not late
 then-holds : (v : Verdict) (i x : ℕ) → (then v i x ≡ holds) ↔ ((v ≡ holds) × (x ≡ 0))

@@ -1,4 +1,6 @@
 -- What the checks of an operation say together. Definitions: specs/Faults.antt.
+--     entry_before-more       one entry on, the entry before is this one
+--     bad_tick-after          after the first picture a tick is judged by the one before it and the first
 --     recording_faults-ascending, verdict_faults-ascending, schedule_faults-ascending, least_faults-ascending,
 --     table_faults-ascending, lookup_faults-ascending, seconds_faults-ascending
 --                             the checks of an operation stand in the order of their numbers, so that the lowest is the first
@@ -6,20 +8,23 @@
 --     faults-after            and after those of a recording further checks are judged where the recording passes
 --     verdict_faults-first    so a rate and a bucket are judged after the recording
 --     verdict_faults-after    and what follows is judged after all three
+--     verdict_faults-within   a recording, a rate and a bucket that are not refused keep the limits
 --     judge_outcome-within    a recording is not refused exactly when it keeps every limit
 --     rate_list-within        a list of rates is not refused exactly when all are in range and rise
 --     within-recorded         such a recording has all that the theorems ask
 -- Assumes nothing.
-use Prim.Native.Nat.{ℕ, zero, suc, ◌≤◌, ◌<◌}
+use Prim.Native.Nat.{ℕ, zero, suc, ◌+◌, ◌-◌, ◌≤◌, ◌<◌}
+use native.Mathlib.Nat.{not-suc-le-zero}
+use native.Mathlib.Numerals.{add-one}
 use mathlib.Core.Path.{◌≡◌, refl, sym, ap, ◌∙◌}
-use mathlib.Core.Bool.{false, not}
+use mathlib.Core.Bool.{false, not, ◌||◌}
 use mathlib.Core.Logic.Iff
 use mathlib.Core.Logic.{◌↔◌}
 use mathlib.Core.List.{List, ◌++◌}
 use lib.Dec.{leb, ltb}
 use lib.ListN.{length, get_or}
 use borrow.Author.Tests.{ltb-false, le-ltb, leb-false, lt-leb, not-false, eqb-true, eq-eqb}
-use Rattle.rules.specs.Limits.{pictures_max, size_max, span_max, ts_max, nu_max, rate_max}
+use Rattle.rules.specs.Limits.{pictures_max, size_max, span_max, ts_max, nu_max, rate_max, bucket_max}
 use Rattle.rules.specs.Refusals as refusal
 use Rattle.model.specs.Recording.{Recording, Recorded, Within, pictures, size, tick, distance}
 use Rattle.model.specs.Arrival.{Bucket}
@@ -29,7 +34,14 @@ use Rattle.terms.specs.Numbers.{outside}
 use Rattle.model.specs.Faults.{pictures_check, lengths_check, clock_check, bad_clock, size_check, bad_size, entry_before, bad_tick, tick_check, bad_rate, bad_rate_at, rate_list_check, RatesWithin, recording_faults, verdict_faults, schedule_faults, least_faults, table_faults, lookup_faults, seconds_faults}
 use Rattle.model.specs.Outcomes.{judge_outcome}
 use Rattle.terms.proofs.NumbersLaws.{or-false, outside-false}
-use Rattle.terms.proofs.AnswersLaws.{refuse_if-passed, first-passed, first_fault-passed, Ascending, none, test, list, lowest-first, lowest-append}
+use Rattle.terms.proofs.AnswersLaws.{refuse_if-passed, first-passed, first_fault-passed, Ascending, none, test, list, lowest-first, or_else-passed, lowest-append}
+
+pub entry_before-more : (l : List ℕ) (i : ℕ) → entry_before l (i + 1) ≡ get_or l i 0
+entry_before-more l i = rw add-one
+
+pub bad_tick-after : (ticks : List ℕ) (i : ℕ) → 1 ≤ i → bad_tick ticks i ≡ (leb (get_or ticks i 0) (entry_before ticks i) || ltb span_max (get_or ticks i 0 - get_or ticks 0 0))
+bad_tick-after ticks zero h = absurd (not-suc-le-zero h)
+bad_tick-after ticks (suc i) h = refl
 
 pub recording_faults-ascending : (k : Recording) {js : List Judgement} → Ascending refusal.tick js → Ascending refusal.pictures (recording_faults k ++ js)
 recording_faults-ascending k h =
@@ -163,6 +175,18 @@ verdict_faults-after k u js h =
 
 pub verdict_faults-first : (k : Recording) (u : Bucket) → lowest (verdict_faults k u) ≡ or_else (judge_outcome k) (first (seconds_faults u))
 verdict_faults-first k u = faults-after k (seconds_faults u) (test refusal.rate _ 0 tt (test refusal.bucket _ 0 tt none))
+
+pub verdict_faults-within : (k : Recording) (u : Bucket) → lowest (verdict_faults k u) ≡ passed
+    → Within k × (u.rate ≤ rate_max) × (u.buffer ≤ bucket_max) × (u.fullness ≤ u.buffer)
+verdict_faults-within k u e =
+    let both = (or_else-passed (judge_outcome k) (first (seconds_faults u))).0 (sym (verdict_faults-first k u) ∙ e) in
+    let each = (first-passed (seconds_faults u)).0 both.1 in
+    let figures = (or-false _ _).0 ((refuse_if-passed _ refusal.bucket 0).0 each.1.0) in (
+      (judge_outcome-within k).0 both.0,
+      ((outside-false 1 rate_max u.rate).0 ((refuse_if-passed _ refusal.rate 0).0 each.0)).1,
+      ((outside-false 1 bucket_max u.buffer).0 figures.0).1,
+      ((outside-false 1 u.buffer u.fullness).0 figures.1).1,
+    )
 
 pub rate_list-within : (rates : List ℕ) → (rate_list_check rates ≡ passed) ↔ RatesWithin rates
 rate_list-within rates =

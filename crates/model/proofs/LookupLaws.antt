@@ -1,6 +1,7 @@
 -- The lookup's four cases are document 01's. Definitions: specs/Lookup.antt.
 --     blend-above         an interpolated figure is at least the exact one
 --     blend-lt            and exceeds it by less than 1
+--     rows_up_to-last     what the last row at or below a rate is
 --     rows_up_to-row      the last row at or below a rate is the one with no such row after it
 --     figure_at-row       the figure goes by that row
 --     figure_at-below     below the first row the figure grows
@@ -9,9 +10,10 @@
 --     figure_at-above     above the last row of a table of any length it is the last row's
 -- Assumes nothing.
 use Prim.Native.Nat.{ℕ, zero, suc, ◌+◌, ◌-◌, ◌*◌, ◌≤◌, ◌<◌, zero-le}
-use native.Mathlib.Nat.{le_of_lt, lt-suc_self, lt_of_lt_of_le, le_step, not-suc-le-zero, suc-le-suc_iff, eq-or-lt_of_le, ne_of_lt}
+use native.Mathlib.Nat.{le_refl, lt_of_not-le, suc-ne-zero, suc_inj, le_of_lt, lt-suc_self, lt_of_lt_of_le, le_step, not-suc-le-zero, suc-le-suc_iff, eq-or-lt_of_le, ne_of_lt}
+use native.Mathlib.Decide.{dec_le}
 use native.Mathlib.Omega.{arith}
-use mathlib.Core.Path.{◌≡◌, refl, ap, ◌∙◌}
+use mathlib.Core.Path.{◌≡◌, refl, sym, ap, ◌∙◌, subst}
 use mathlib.Core.Logic.{⊎_elim}
 use mathlib.Core.List.{List}
 use lib.ListN.{length, get_or}
@@ -39,6 +41,31 @@ rows_up_to-row rates r (suc n) i h lo hi =
     ⊎_elim (λ e. rw (← e, le-leb _ _ lo))
     (λ g. rw (lt-leb _ _ (hi n g (lt-suc_self n)), rows_up_to-row rates r n i g lo (λ j a b. hi j a (le_step b))))
     (eq-or-lt_of_le (suc-le-suc_iff.0 h))
+
+-- what the last row at or below a rate is, and what the rows after it are not
+pub record LastRow (rates : List ℕ) (r n row : ℕ) : Type 0 where
+  pub within : row ≤ n
+  pub low : (a : ℕ) → row ≡ suc a → get_or rates a 0 ≤ r
+  pub high : (j : ℕ) → row ≤ j → j < n → r < get_or rates j 0
+
+pub rows_up_to-last : (rates : List ℕ) (r n : ℕ) → LastRow rates r n (rows_up_to rates r n)
+unfolding rows_up_to
+rows_up_to-last rates r zero = record { within = zero-le; low = λ a e. absurd (suc-ne-zero a (sym e)); high = λ j h g. absurd (not-suc-le-zero g) }
+rows_up_to-last rates r (suc n) =
+    elim (dec_le (get_or rates n 0) r) [
+      | yes h ↦
+          rw (le-leb _ _ h)
+          (record { within = le_refl (suc n); low = λ a e. subst (λ m. get_or rates m 0 ≤ r) (suc_inj e) h; high = λ j a b. absurd (omega arith) })
+      | no h ↦
+          let last = rows_up_to-last rates r n in
+          let over = lt_of_not-le h in
+          rw (lt-leb _ _ over)
+          (record {
+            within = le_step last.within;
+            low = last.low;
+            high = λ j a b. ⊎_elim (λ e. rw e over) (λ g. last.high j a g) (eq-or-lt_of_le (suc-le-suc_iff.0 b));
+          })
+    ]
 
 module _ (a : Axis) (xs : List ℕ) (r : ℕ) where
   -- the figure, from the last row at or below r

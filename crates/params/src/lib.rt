@@ -132,9 +132,9 @@ pub fn row_before(f: usize) -> usize
 }
 
 // Value number f of a record, in the order of the fields.
-pub fn value_at(params: Params, f: usize) -> u64
-    requires { (1 ≤ (params_of params).cpb_cnt) × ((params_of params).cpb_cnt ≤ cpb_cnt_max) × (f < 3 + 3 * (params_of params).cpb_cnt + 4) }
-    ensures { result ≡ get_or (values_of (params_of params)) f 0 }
+pub fn value_at(params: &Params, f: usize) -> u64
+    requires { (1 ≤ (params_of params.now).cpb_cnt) × ((params_of params.now).cpb_cnt ≤ cpb_cnt_max) × (f < 3 + 3 * (params_of params.now).cpb_cnt + 4) }
+    ensures { result ≡ get_or (values_of (params_of params.now)) f 0 }
 {
     let end = 3 + 3 * params.cpb_cnt;
     match f {
@@ -169,8 +169,8 @@ pub fn judge_params(params: Params) -> Judgement
     }
     for f in 0..3 + 3 * n + 4 {
         let field = field_at(n, f);
-        let before = value_at(params, row_before(f));
-        if !keeps(field, before, value_at(params, f)) {
+        let before = value_at(&params, row_before(f));
+        if !keeps(field, before, value_at(&params, f)) {
             return Err(Refusal::Field(field.place()));
         }
     }

@@ -67,26 +67,26 @@ impl Valued {
 
 impl Judged {
     // How many fields the record has.
-    fn field_count(self) -> usize
-        ensures { result ≡ 3 + 3 * self.params.cpb_cnt + 4 }
+    fn field_count(&self) -> usize
+        ensures { result ≡ 3 + 3 * self.now.params.cpb_cnt + 4 }
     {
         3 + 3 * self.params.cpb_cnt + 4
     }
 
     // Field number f of the record, and its value.
-    fn field(self, f: usize) -> Valued
-        requires { f < 3 + 3 * self.params.cpb_cnt + 4 }
-        ensures { (field_of result.field ≡ get_or (fields_of self.params.cpb_cnt) f cpb_cnt_minus1) × (result.value ≡ get_or (values_of (params_of self.params)) f 0) }
+    fn field(&self, f: usize) -> Valued
+        requires { f < 3 + 3 * self.now.params.cpb_cnt + 4 }
+        ensures { (field_of result.field ≡ get_or (fields_of self.now.params.cpb_cnt) f cpb_cnt_minus1) × (result.value ≡ get_or (values_of (params_of self.now.params)) f 0) }
     {
         Valued {
             field: params::field_at(self.params.cpb_cnt, f),
-            value: params::value_at(self.params, f),
+            value: params::value_at(&self.params, f),
         }
     }
 
     // How many bits the record takes.
-    fn length(self) -> u64
-        ensures { result ≡ length (params_bits (params_of self.params)) }
+    fn length(&self) -> u64
+        ensures { result ≡ length (params_bits (params_of self.now.params)) }
     {
         (0..self.field_count())
             .map(|f| self.field(f).length())
@@ -94,9 +94,9 @@ impl Judged {
     }
 
     // Writes the record at a position with room for it, and gives the next position.
-    fn write(self, bytes: &mut [u8], start: u64) -> u64
-        requires { (start + length (params_bits (params_of self.params)) ≤ 8 * length bytes.old) × (start + length (params_bits (params_of self.params)) ≤ 2 ^ 32) }
-        ensures { (result ≡ start + length (params_bits (params_of self.params))) × (bytes.new ≡ put_bits bytes.old start (params_bits (params_of self.params))) }
+    fn write(&self, bytes: &mut [u8], start: u64) -> u64
+        requires { (start + length (params_bits (params_of self.now.params)) ≤ 8 * length bytes.old) × (start + length (params_bits (params_of self.now.params)) ≤ 2 ^ 32) }
+        ensures { (result ≡ start + length (params_bits (params_of self.now.params))) × (bytes.new ≡ put_bits bytes.old start (params_bits (params_of self.now.params))) }
     {
         let mut p = start;
         for f in 0..self.field_count() {

@@ -6,8 +6,10 @@
 --     first-passed                                                   several judgements pass exactly when each does
 --     first-append                                                   of two lists the second is judged where the first passes
 --     first_fault-passed                                             a list passes exactly when no place is at fault
---     first_bad-here                                                 where a search finds the first place at fault
+--     none_bad-zero, none_bad-more, first_bad-here, first_bad-none   how a search finds the first place at fault
 --     first_fault-found                                              a refusal stands at the first place at fault
+--     first_fault-none                                               and there is none where no place is
+--     first_fault-search                                             so a list is judged by where a search ended
 --     Numbered                                                       a judgement that passes or refuses with a given number
 --     Ascending                                                      judgements in the order of their numbers
 --     lowest-first                                                   of such the lowest is the first
@@ -25,7 +27,8 @@
 --     room_check-passed                                              a list passes exactly when it has room
 -- Assumes nothing.
 use Prim.Native.Nat.{ℕ, zero, suc, ◌+◌, ◌≤◌, ◌<◌}
-use native.Mathlib.Nat.{le_refl, le_trans, le_of_lt, not-suc-le-zero, suc-le-suc_iff, eq-or-lt_of_le, lt-suc_self, le_step}
+use native.Mathlib.Nat.{le_refl, not-le_of_lt, le_trans, le_of_lt, not-suc-le-zero, suc-le-suc_iff, eq-or-lt_of_le, lt-suc_self, le_step}
+use native.Mathlib.Decide.{dec_lt}
 use native.Mathlib.Omega.{arith}
 use mathlib.Core.Path.{◌≡◌, refl, sym, ap, ◌∙◌}
 use mathlib.Core.Bool.{Bool, true, false, cond, true≢false}
@@ -33,6 +36,7 @@ use mathlib.Core.Logic.{◌↔◌, ◌⊎◌, inl, inr, ⊎_elim}
 use mathlib.Core.List.{List, [], ◌∷◌, ◌++◌}
 use lib.Dec.{T, leb, ltb, lit≤}
 use lib.ListN.{length, get_or}
+use borrow.Author.Count.{below_more}
 use borrow.Author.Tests.{ltb-true, ltb-false, lt-ltb, le-ltb}
 use Rattle.rules.specs.Refusals as refusal
 use Rattle.terms.specs.Answers.{room_check, given, refused, Judgement, passed, refuse_if, or_else, first_fault, NoneBad, FirstBad, lower, lowest, first, answer_with}
@@ -109,8 +113,18 @@ first_fault-passed n bad (suc m) =
       λ h. both.1 ((first_fault-passed n bad m).1 (λ i g. h i (le_step g)), (refuse_if-passed (bad m) n m).1 (h m (lt-suc_self m))),
     )
 
+-- how a search finds the first place at fault: nothing passed yet, one place more passed, a fault met, all passed
+pub none_bad-zero : (bad : ℕ → Bool) → NoneBad bad 0
+none_bad-zero bad j h = absurd (not-suc-le-zero h)
+
+pub none_bad-more : (bad : ℕ → Bool) (i : ℕ) → NoneBad bad i → bad i ≡ false → NoneBad bad (i + 1)
+none_bad-more bad i = below_more (λ j. bad j ≡ false) i
+
 pub first_bad-here : (bad : ℕ → Bool) (n i : ℕ) → NoneBad bad i → i < n → bad i ≡ true → FirstBad bad n i
 first_bad-here bad n i before h fault = record { within = le_of_lt h; fault = λ _. fault; before = before }
+
+pub first_bad-none : (bad : ℕ → Bool) (n i : ℕ) → NoneBad bad i → i ≤ n → n ≤ i → FirstBad bad n i
+first_bad-none bad n i before h end = record { within = h; fault = λ g. absurd (not-le_of_lt g end); before = before }
 
 pub first_fault-found : (n : ℕ) (bad : ℕ → Bool) (m i : ℕ) → FirstBad bad m i → i < m → first_fault n bad m ≡ refused n i
 unfolding first_fault refuse_if
@@ -119,6 +133,16 @@ first_fault-found n bad (suc m) i at h =
     ⊎_elim (λ e. rw ((first_fault-passed n bad m).1 (λ j g. at.before j (rw e g)), ← e, at.fault h))
     (λ g. rw (first_fault-found n bad m i (record { within = le_of_lt g; fault = λ _. at.fault h; before = at.before }) g))
     (eq-or-lt_of_le (suc-le-suc_iff.0 h))
+
+pub first_fault-none : (n : ℕ) (bad : ℕ → Bool) (m i : ℕ) → FirstBad bad m i → m ≤ i → first_fault n bad m ≡ passed
+first_fault-none n bad m i at h = (first_fault-passed n bad m).1 (λ j g. at.before j (le_trans g h))
+
+pub first_fault-search : (n : ℕ) (bad : ℕ → Bool) (m i : ℕ) → FirstBad bad m i → refuse_if (ltb i m) n i ≡ first_fault n bad m
+first_fault-search n bad m i at =
+    elim (dec_lt i m) [
+      | yes h ↦ test-true n i (lt-ltb i m h) ∙ sym (first_fault-found n bad m i at h)
+      | no h ↦ let g : m ≤ i = omega arith in test-false n i (le-ltb i m g) ∙ sym (first_fault-none n bad m i at g)
+    ]
 
 -- passes, or refuses with the number m
 abbrev pub Numbered : ℕ → Judgement → Type 0

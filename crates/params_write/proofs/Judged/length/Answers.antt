@@ -42,7 +42,7 @@ sum-requires-clause-fits c =
 
 pub returns : goal.returns
 returns c =
-    let p = params_of c.args.self.params in
+    let p = params_of c.args.self.now.params in
     let all = 3 + 3 * p.cpb_cnt + 4 in
     sum_from_yields_List c.map.result c.sum.result c.sum.ensures.ran
     (YieldsList-from_map _ (λ f. length (field_bits p f)) (YieldsList-from_range 0 c.field_count.result all c.map.ensures.source (search rules)) c.map.ensures.closure (λ x r q k. search (rules, tests)))

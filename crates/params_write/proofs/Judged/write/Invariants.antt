@@ -16,4 +16,4 @@ pub record Written (p : Params) (bytes₀ : List ℕ) (start : ℕ) (bytes : Lis
   pub is : put_bits bytes q (bits_left p f) ≡ put_bits bytes₀ start (params_bits p)
 
 abbrev pub invariant-loop-f : goal.invariant-loop-f
-invariant-loop-f l = Written (params_of l.self.params) l.initial.bytes l.start l.bytes l.p l.f
+invariant-loop-f l = Written (params_of l.fn.self.params) l.initial.bytes l.start l.bytes l.p l.f
